@@ -1,0 +1,12 @@
+//! A stand-in for the crate `heapless` with only the calls that the
+//! orchestrator makes, each with the meaning that heapless documents. Storage
+//! is a fixed array, as in heapless. Elements are `Copy` (those of the
+//! orchestrator are), so nothing has to be dropped.
+
+#![no_std]
+
+mod deque;
+mod vec;
+
+pub use deque::Deque;
+pub use vec::{IntoIter, Vec};

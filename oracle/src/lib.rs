@@ -1,0 +1,6 @@
+//! Compares the port with the published Rust. The Rust is the oracle: every
+//! expected answer comes from it, or from document 01 where the Rust cannot be
+//! asked.
+
+pub mod lists;
+pub mod random;

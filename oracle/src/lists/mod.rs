@@ -1,0 +1,39 @@
+//! Lists of components and the verdict of `Chain::<256>::try_from` on them.
+
+pub mod answer;
+pub mod compare;
+pub mod counts;
+pub mod faults;
+pub mod generate;
+pub mod line;
+pub mod mutate;
+pub mod sample;
+
+use openprot_orchestrator_sm::{ComponentAttrs, ComponentId};
+
+/// The capacity of the chains that the Rust is asked about.
+pub const CAPACITY: usize = 256;
+
+/// The most entries that a chain may have, and that the port keeps of a list.
+pub const LONGEST: usize = 255;
+
+/// One component of a list, as the Rust takes it.
+pub type Entry = (ComponentId, ComponentAttrs);
+
+/// A list as it stands on one line. `length` may exceed the entries written,
+/// since no line can carry the longest lists.
+#[derive(Clone, PartialEq, Eq, Debug)]
+pub struct List {
+    pub length: u64,
+    pub entries: Vec<Entry>,
+}
+
+impl List {
+    /// A list that is as long as its entries.
+    pub fn whole(entries: Vec<Entry>) -> Self {
+        Self {
+            length: entries.len() as u64,
+            entries,
+        }
+    }
+}
