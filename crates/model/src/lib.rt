@@ -36,7 +36,8 @@ impl RegionId {
     pub fn get(self) -> u8
         ensures { λ r. ⌜ r ≡ self .0 ⌝ }
     {
-        self.0
+        let id = self.0;
+        id
     }
 }
 
