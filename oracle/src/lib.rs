@@ -2,5 +2,9 @@
 //! expected answer comes from it, or from document 01 where the Rust cannot be
 //! asked.
 
+pub mod command;
+pub mod compare;
 pub mod lists;
 pub mod random;
+pub mod steps;
+pub mod subject;

@@ -1,14 +1,14 @@
 -- A list is accepted exactly where it is sound: the theorem `accepted`.
 use Prim.Native.Nat.{ℕ, zero, suc, _+_, _≤_, _<_}
-use mathlib.Core.Path.{_≡_, refl, sym, _∙_, ap}
+use mathlib.Core.Path.{_≡_, refl, sym}
 use mathlib.Core.Logic.{_↔_}
 use mathlib.Core.Bool.{Bool, true, false}
-use mathlib.Core.List.{List, [], _∷_}
+use mathlib.Core.List.{List}
 use native.Mathlib.Nat.{add-zero, zero-add}
 use native.Mathlib.Omega.{arith}
-use lib.ListN.{getD, length}
+use lib.ListN.{length}
 use lib.Dec.{eqb, ltb}
-use borrow.Author.Tests.{eq-eqb, ne-eqb, lt-ltb, le-ltb, eqb-false, ltb-true, ltb-false}
+use borrow.Author.Tests.{ne-eqb, lt-ltb, le-ltb, eqb-false, ltb-true, ltb-false}
 use Rattle.model.specs.declared.ComponentId.{ComponentId}
 use Rattle.model.specs.declared.Component.{Component}
 use Rattle.model.specs.declared.OptionId.{OptionId}

@@ -1,15 +1,15 @@
 -- Laws of the place of an id: they hold of every list, and the last two of every sound one.
-use Prim.Native.Nat.{ℕ, zero, suc, _+_, _≤_, _<_}
-use mathlib.Core.Path.{_≡_, refl, sym, _∙_, ap}
-use mathlib.Core.Bool.{Bool, true, false}
+use Prim.Native.Nat.{ℕ, zero, suc, _≤_, _<_}
+use mathlib.Core.Path.{_≡_, refl, ap}
+use mathlib.Core.Bool.{true, false}
 use mathlib.Core.List.{List, [], _∷_}
 use native.Mathlib.Omega.{arith}
 use lib.ListN.{getD, length}
-use borrow.Author.Tests.{eq-eqb, eqb-true, eqb-false}
+use borrow.Author.Tests.{eqb-true, eqb-false}
 use Rattle.model.specs.declared.ComponentId.{ComponentId}
 use Rattle.model.specs.declared.Component.{Component}
 use Rattle.model.specs.declared.OptionId.the-variants.{Some}
-use Rattle.model.specs.Vocabulary.{pick, idOf}
+use Rattle.model.specs.Vocabulary.{idOf}
 use Rattle.model.specs.Chain.{position, sameId, at, idAt, dependsAt, blank, Sound}
 use Rattle.model.proofs.Pick.{pickP}
 

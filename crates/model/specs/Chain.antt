@@ -18,7 +18,6 @@ use Rattle.model.specs.declared.Question.{Question}
 use Rattle.model.specs.declared.Question.the-variants.{NewId, Link}
 use Rattle.model.specs.declared.Verdict.{Verdict}
 use Rattle.model.specs.declared.Verdict.the-variants.{Accepted, Refused}
-use Rattle.model.specs.declared.ChainError.{ChainError}
 use Rattle.model.specs.declared.ChainError.the-variants.{Empty, TooLong, DuplicateId, UnknownDependency, ForwardDependency}
 
 -- The entries handed in, as a list; of more than 255 the first 255.

@@ -63,25 +63,33 @@ impl From<ChainError> for Answer {
     }
 }
 
-/// The answer to a list and its source.
-pub fn answer(list: &List) -> (Answer, Source) {
-    if list.length > CAPACITY as u64 {
-        (answer_by_document_01(list.length), Source::Document01)
-    } else {
-        (answer_by_rust(&list.entries), Source::Rust)
+/// The answer to a list.
+pub fn answer(list: &List) -> Answer {
+    match source(list) {
+        Source::Rust => match chain(&list.entries) {
+            Ok(_) => Answer::ACCEPTED,
+            Err(error) => error.into(),
+        },
+        Source::Document01 => answer_by_document_01(list.length),
     }
 }
 
-/// Runs the Rust. The entries are at most 256.
-pub fn answer_by_rust(entries: &[Entry]) -> Answer {
+/// Where the answer to a list comes from.
+pub fn source(list: &List) -> Source {
+    if list.length > CAPACITY as u64 {
+        Source::Document01
+    } else {
+        Source::Rust
+    }
+}
+
+/// The Rust's verdict. The entries are at most 256.
+pub fn chain(entries: &[Entry]) -> Result<Chain<CAPACITY>, ChainError> {
     let mut list = heapless::Vec::<Entry, CAPACITY>::new();
     for entry in entries {
         list.push(*entry).expect("a list of at most 256 entries");
     }
-    match Chain::<CAPACITY>::try_from(list) {
-        Ok(_) => Answer::ACCEPTED,
-        Err(error) => error.into(),
-    }
+    Chain::try_from(list)
 }
 
 /// Question 3 of document 01, for a length that the Rust cannot hold.
@@ -96,8 +104,8 @@ mod tests {
     use super::*;
 
     fn answered(line: &str) -> (String, Source) {
-        let (answer, source) = answer(&parse(line).unwrap());
-        (answer.to_string(), source)
+        let list = parse(line).unwrap();
+        (answer(&list).to_string(), source(&list))
     }
 
     #[test]

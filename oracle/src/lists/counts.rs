@@ -2,12 +2,10 @@
 
 use std::fmt;
 
-use super::answer::{Answer, Source};
+use super::answer::{Answer, Source, source};
 use super::faults::{faults, has_self_dependency, numbers_differ};
 use super::{LONGEST, List};
-
-/// From this many lists on, a comparison must reach the minimums.
-pub const MINIMUMS_FROM: u64 = 100_000;
+use crate::subject::{self, MINIMUMS_FROM};
 
 const LEAST_OF_EACH_ANSWER: u64 = 5_000;
 const LEAST_ACCEPTED_AT_A_LENGTH: u64 = 500;
@@ -27,21 +25,19 @@ pub struct Counts {
     accepted: [u64; LENGTHS.len()],
     two_fault_numbers: u64,
     self_dependency: u64,
-    pub differences: u64,
 }
 
-impl Counts {
-    /// Counts one list with the oracle's answer.
-    pub fn record(&mut self, list: &List, answer: Answer, source: Source) {
+impl subject::Counts<List, Answer> for Counts {
+    fn record(&mut self, list: &List, answer: &Answer) {
         self.lists += 1;
         self.answers[usize::from(answer.number)] += 1;
-        if answer == Answer::TOO_LONG {
-            match source {
+        if *answer == Answer::TOO_LONG {
+            match source(list) {
                 Source::Rust => self.too_long_from_rust += 1,
                 Source::Document01 => self.too_long_from_document_01 += 1,
             }
         }
-        if answer == Answer::ACCEPTED {
+        if *answer == Answer::ACCEPTED {
             for (count, length) in self.accepted.iter_mut().zip(LENGTHS) {
                 *count += u64::from(list.length == length);
             }
@@ -53,6 +49,19 @@ impl Counts {
         }
     }
 
+    fn missed_minimums(&self) -> Vec<String> {
+        if self.lists < MINIMUMS_FROM {
+            return Vec::new();
+        }
+        self.minimums()
+            .into_iter()
+            .filter(|(_, count, least)| count < least)
+            .map(|(name, count, least)| format!("{name} is {count}, at least {least} are needed"))
+            .collect()
+    }
+}
+
+impl Counts {
     /// The rows that have a minimum, with it.
     fn minimums(&self) -> Vec<(String, u64, u64)> {
         let mut rows = Vec::new();
@@ -71,19 +80,6 @@ impl Counts {
         ));
         rows
     }
-
-    /// One message for each minimum that is missed, if there were enough lists
-    /// to ask for them.
-    pub fn missed_minimums(&self) -> Vec<String> {
-        if self.lists < MINIMUMS_FROM {
-            return Vec::new();
-        }
-        self.minimums()
-            .into_iter()
-            .filter(|(_, count, least)| count < least)
-            .map(|(name, count, least)| format!("{name} is {count}, at least {least} are needed"))
-            .collect()
-    }
 }
 
 impl fmt::Display for Counts {
@@ -99,8 +95,7 @@ impl fmt::Display for Counts {
             writeln!(f, "accepted_at_length_{length} {count}")?;
         }
         writeln!(f, "with_two_fault_numbers {}", self.two_fault_numbers)?;
-        writeln!(f, "with_self_dependency {}", self.self_dependency)?;
-        writeln!(f, "differences {}", self.differences)
+        writeln!(f, "with_self_dependency {}", self.self_dependency)
     }
 }
 
@@ -109,13 +104,13 @@ mod tests {
     use super::super::answer::answer;
     use super::super::line::parse;
     use super::*;
+    use crate::subject::Counts as _;
 
     fn counts_of(lines: &[&str]) -> Counts {
         let mut counts = Counts::default();
         for line in lines {
             let list = parse(line).unwrap();
-            let (answer, source) = answer(&list);
-            counts.record(&list, answer, source);
+            counts.record(&list, &answer(&list));
         }
         counts
     }
@@ -136,7 +131,7 @@ mod tests {
             answer_3_from_rust 0\nanswer_3_from_document_01 1\n\
             accepted_at_length_1 1\naccepted_at_length_2 1\n\
             accepted_at_length_254 0\naccepted_at_length_255 0\n\
-            with_two_fault_numbers 1\nwith_self_dependency 1\ndifferences 0\n";
+            with_two_fault_numbers 1\nwith_self_dependency 1\n";
         assert_eq!(table, expected);
     }
 

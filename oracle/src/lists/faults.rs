@@ -65,7 +65,7 @@ pub fn has_self_dependency(entries: &[Entry]) -> bool {
 
 #[cfg(test)]
 mod tests {
-    use super::super::answer::{Answer, answer_by_rust};
+    use super::super::answer::{Answer, answer};
     use super::super::generate::lists;
     use super::super::line::parse;
     use super::super::{LONGEST, List};
@@ -144,7 +144,7 @@ mod tests {
             .take(5_000)
             .filter(|list| (1..=LONGEST as u64).contains(&list.length));
         for list in asked {
-            assert_eq!(answer_by_rust(&list.entries), refusal(&list), "{list}");
+            assert_eq!(answer(&list), refusal(&list), "{list}");
         }
     }
 }

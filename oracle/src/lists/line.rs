@@ -9,30 +9,35 @@ use openprot_orchestrator_sm::{
 
 use super::{CAPACITY, Entry, List};
 
-/// The number written for a dependency that is not there.
-const NO_DEPENDENCY: u64 = 256;
+/// The number written for an id that is not there.
+pub const NO_ID: u64 = 256;
 
 /// The numbers that one entry takes.
-const ENTRY_FIELDS: usize = 5;
+pub const ENTRY_FIELDS: usize = 5;
 
 impl fmt::Display for List {
     fn fmt(&self, f: &mut fmt::Formatter<'_>) -> fmt::Result {
         write!(f, "{}", self.length)?;
-        for (id, attrs) in &self.entries {
-            write!(
-                f,
-                " {} {} {} {} {}",
-                id.get(),
-                kind_number(attrs.kind),
-                policy_number(attrs.failure_policy),
-                attrs.recovery_region.get(),
-                attrs
-                    .depends_on
-                    .map_or(NO_DEPENDENCY, |dependency| dependency.get().into()),
-            )?;
-        }
-        Ok(())
+        write_entries(f, &self.entries)
     }
+}
+
+/// Writes the entries, each number after a space.
+pub fn write_entries(f: &mut fmt::Formatter<'_>, entries: &[Entry]) -> fmt::Result {
+    for (id, attrs) in entries {
+        write!(
+            f,
+            " {} {} {} {} {}",
+            id.get(),
+            kind_number(attrs.kind),
+            policy_number(attrs.failure_policy),
+            attrs.recovery_region.get(),
+            attrs
+                .depends_on
+                .map_or(NO_ID, |dependency| dependency.get().into()),
+        )?;
+    }
+    Ok(())
 }
 
 fn kind_number(kind: ComponentKind) -> u8 {
@@ -53,15 +58,12 @@ fn policy_number(policy: FailurePolicy) -> u8 {
 /// Reads a line without its byte 10. A list that the Rust can hold must carry
 /// all its entries.
 pub fn parse(line: &str) -> Result<List, String> {
-    let numbers = line.split(' ').map(number).collect::<Result<Vec<_>, _>>()?;
+    let numbers = numbers(line)?;
     let (length, fields) = numbers.split_first().ok_or("no length")?;
     if fields.len() % ENTRY_FIELDS != 0 {
         return Err(format!("{} numbers after the length", fields.len()));
     }
-    let entries = fields
-        .chunks_exact(ENTRY_FIELDS)
-        .map(entry)
-        .collect::<Result<Vec<_>, _>>()?;
+    let entries = entries(fields)?;
     if *length <= CAPACITY as u64 && *length != entries.len() as u64 {
         return Err(format!("length {length} with {} entries", entries.len()));
     }
@@ -71,10 +73,21 @@ pub fn parse(line: &str) -> Result<List, String> {
     })
 }
 
+/// The numbers of a line, which are parted by one space.
+pub fn numbers(line: &str) -> Result<Vec<u64>, String> {
+    line.split(' ').map(number).collect()
+}
+
 fn number(field: &str) -> Result<u64, String> {
     field
         .parse()
         .map_err(|error| format!("number {field:?}: {error}"))
+}
+
+/// The entries that the fields make; their number is a multiple of
+/// `ENTRY_FIELDS`.
+pub fn entries(fields: &[u64]) -> Result<Vec<Entry>, String> {
+    fields.chunks_exact(ENTRY_FIELDS).map(entry).collect()
 }
 
 fn entry(fields: &[u64]) -> Result<Entry, String> {
@@ -89,10 +102,7 @@ fn entry(fields: &[u64]) -> Result<Entry, String> {
         2 => FailurePolicy::Cascading,
         other => return Err(format!("policy {other}")),
     };
-    let depends_on = match fields[4] {
-        NO_DEPENDENCY => None,
-        dependency => Some(ComponentId::new(byte(dependency)?)),
-    };
+    let depends_on = optional_id(fields[4])?;
     let attrs = ComponentAttrs {
         kind,
         failure_policy,
@@ -102,7 +112,15 @@ fn entry(fields: &[u64]) -> Result<Entry, String> {
     Ok((ComponentId::new(byte(fields[0])?), attrs))
 }
 
-fn byte(value: u64) -> Result<u8, String> {
+/// An id, or none for `NO_ID`.
+pub fn optional_id(value: u64) -> Result<Option<ComponentId>, String> {
+    match value {
+        NO_ID => Ok(None),
+        id => Ok(Some(ComponentId::new(byte(id)?))),
+    }
+}
+
+pub fn byte(value: u64) -> Result<u8, String> {
     u8::try_from(value).map_err(|_| format!("{value} is above 255"))
 }
 

@@ -1,7 +1,6 @@
 //! Lists of components and the verdict of `Chain::<256>::try_from` on them.
 
 pub mod answer;
-pub mod compare;
 pub mod counts;
 pub mod faults;
 pub mod generate;
@@ -10,6 +9,8 @@ pub mod mutate;
 pub mod sample;
 
 use openprot_orchestrator_sm::{ComponentAttrs, ComponentId};
+
+use crate::subject::Subject;
 
 /// The capacity of the chains that the Rust is asked about.
 pub const CAPACITY: usize = 256;
@@ -35,5 +36,31 @@ impl List {
             length: entries.len() as u64,
             entries,
         }
+    }
+}
+
+/// The verdict on a list, as a subject of comparison.
+pub struct Lists;
+
+impl Subject for Lists {
+    const NAME: &'static str = "lists";
+    type Case = List;
+    type Answer = answer::Answer;
+    type Counts = counts::Counts;
+
+    fn parse(line: &str) -> Result<List, String> {
+        line::parse(line)
+    }
+
+    fn answer(list: &List) -> answer::Answer {
+        answer::answer(list)
+    }
+
+    fn cases(seed: u64) -> impl Iterator<Item = List> {
+        generate::lists(seed)
+    }
+
+    fn sample(seed: u64) -> Vec<List> {
+        sample::sample(seed)
     }
 }

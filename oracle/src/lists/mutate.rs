@@ -19,7 +19,7 @@ pub fn mutate(random: &mut SplitMix64, entries: &mut [Entry]) {
 }
 
 /// The first or last position more often than the others.
-fn position(random: &mut SplitMix64, length: usize) -> usize {
+pub fn position(random: &mut SplitMix64, length: usize) -> usize {
     match random.below(4) {
         0 => 0,
         1 => length - 1,

@@ -1,13 +1,8 @@
 //! A small fixed sample of lists with the oracle's answers, to be kept as a
 //! test of the port.
 
-use std::fs;
-use std::io;
-use std::path::Path;
-
 use openprot_orchestrator_sm::{ComponentAttrs, ComponentId};
 
-use super::answer::answer;
 use super::generate::{accepted, lists};
 use super::line::parse;
 use super::mutate::depend_on_self;
@@ -28,21 +23,8 @@ const DOCUMENT_01_ROWS: [&str; 4] = [
     "1 5 0 0 0 9",
 ];
 
-/// Writes `folder/stdin` with the lists and `folder/stdout` with the answers.
-pub fn write(seed: u64, folder: &Path) -> io::Result<()> {
-    let sample = sample(seed);
-    let input: String = sample.iter().map(|list| format!("{list}\n")).collect();
-    let output: String = sample
-        .iter()
-        .map(|list| format!("{}\n", answer(list).0))
-        .collect();
-    fs::create_dir_all(folder)?;
-    fs::write(folder.join("stdin"), input)?;
-    fs::write(folder.join("stdout"), output)
-}
-
 /// The lists of the sample: named cases, then generated ones.
-fn sample(seed: u64) -> Vec<List> {
+pub fn sample(seed: u64) -> Vec<List> {
     let mut sample: Vec<List> = DOCUMENT_01_ROWS
         .iter()
         .map(|row| parse(row).expect("a row of document 01"))
@@ -111,6 +93,7 @@ fn changed(length: usize, change: impl FnOnce(&mut [Entry])) -> List {
 
 #[cfg(test)]
 mod tests {
+    use super::super::answer::answer;
     use super::super::faults::faults;
     use super::*;
 
@@ -144,7 +127,7 @@ mod tests {
             let bytes: usize = sample.iter().map(|list| list.to_string().len() + 1).sum();
             assert!(bytes <= MOST_BYTES, "{bytes}");
             for number in [0, 2, 3, 4, 5, 6] {
-                assert!(sample.iter().any(|list| answer(list).0.number == number));
+                assert!(sample.iter().any(|list| answer(list).number == number));
             }
         }
     }

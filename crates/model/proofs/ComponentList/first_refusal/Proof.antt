@@ -1,9 +1,9 @@
 -- `ComponentList::first_refusal` meets its contract: what is left to ask from place i on gives the whole answer.
 use native.Mathlib.Omega.{arith}
 use Prim.Native.Nat.{_-_, _≤_}
-use mathlib.Core.Path.{_≡_, refl, sym, _∙_, ap}
-use lib.ListN.{length, getD}
-use Rattle.model.specs.Chain.{entriesOf, firstFrom, first, test, at, blank}
+use mathlib.Core.Path.{_≡_, sym, _∙_}
+use lib.ListN.{length}
+use Rattle.model.specs.Chain.{entriesOf, firstFrom, first, at}
 use Rattle.model.proofs.Walk.{unmap, kept-at, first-next, nothing-left}
 use borrow.Author.Needs.{needs}
 use Rattle.model.proofs.ComponentList.first_refusal.Statement.{statement}

@@ -1,11 +1,10 @@
 -- `ComponentList::position` meets its contract: what is left to search from place i on gives the whole answer.
 use native.Mathlib.Omega.{arith}
 use Prim.Native.Nat.{_+_, _-_, _≤_}
-use mathlib.Core.Path.{_≡_, refl, sym, _∙_, ap}
+use mathlib.Core.Path.{_≡_, sym, _∙_}
 use borrow.Author.Tests.{eq-eqb, ne-eqb}
 use lib.ListN.{length, drop}
-use Rattle.model.specs.declared.Component.{Component}
-use Rattle.model.specs.Chain.{position, entriesOf, sameId}
+use Rattle.model.specs.Chain.{position, entriesOf}
 use Rattle.model.proofs.Walk.{unmap, kept-at, position-here, position-next, position-end}
 use borrow.Author.Needs.{needs}
 use Rattle.model.proofs.ComponentList.position.Statement.{statement}

@@ -1,5 +1,5 @@
 -- `ComponentList::verdict` meets its contract: each return rewrites with the tests that led there.
-use mathlib.Core.Path.{_≡_, sym, _∙_}
+use mathlib.Core.Path.{sym, _∙_}
 use borrow.Author.Tests.{eq-eqb, ne-eqb, lt-ltb, le-ltb}
 use borrow.Author.Needs.{needs}
 use Rattle.model.proofs.ComponentList.verdict.Statement.{statement}

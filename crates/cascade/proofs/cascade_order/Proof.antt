@@ -1,0 +1,107 @@
+-- `cascade_order` meets its contract: the order is at any moment a queue on its way to the cascade, which is no longer than the chain, so that the array has room for all of it.
+use mathlib.Core.Path.{_≡_, _∙_, ap}
+use mathlib.Core.List.{[], _∷_, _++_}
+use Prim.Native.Nat.{ℕ, suc, _+_, _-_, _≤_, _<_}
+use native.Mathlib.Omega.{arith}
+use native.Mathlib.Numerals.{add-one}
+use lib.ListN.{length, take, getD, length-take}
+use lib.Seq.{take-all}
+use borrow.Author.Needs.{needs}
+use Rattle.model.specs.Chain.{Sound}
+use Rattle.model.proofs.Walk.{unmap, kept-length}
+use Rattle.chain.specs.declared.Chain.{Chain}
+use Rattle.chain.specs.Tables.{entries, Charted}
+use Rattle.cascade.specs.declared.Order.{Order}
+use Rattle.cascade.specs.Cascade.{below}
+use Rattle.cascade.specs.Order.{listed}
+use Rattle.cascade.specs.Dependents.{dependents, Lists}
+use Rattle.cascade.proofs.Queue.{kids, Going, begun, onward, over, fits}
+use Rattle.cascade.proofs.Below.{below-within}
+use Rattle.cascade.proofs.Once.{cascade-length}
+use Rattle.cascade.proofs.Stored.{small, dependents-children}
+use Rattle.cascade.proofs.Places.{listed-at}
+use Rattle.cascade.proofs.cascade_order.Statement.{statement}
+use Rattle.cascade.proofs.cascade_order.Tie as tie
+
+module _ (c : Chain) (full : length (c .list .entries) ≡ 255) (t : Charted c) (s : Sound (c .list .len) (entries c)) (root : ℕ) (b : root < length (entries c)) where
+  -- What the table finds are the direct dependents in the chain,
+  found : (h : ℕ) → dependents (c .parents) h (below (c .list .len)) ≡ kids (entries c) h
+  found h =
+      let n : c .list .len ≡ length (entries c) = omega (arith, kept-length (c .list) full, s .few) in
+      ap (λ (m : ℕ). dependents (c .parents) h (below m)) n
+      ∙ dependents-children (entries c) (c .parents) h (below (length (entries c))) (λ p m. t .parents p (below-within (length (entries c)) p m))
+
+  -- and there is room for them: the queue goes on.
+  goes-on : (k : ℕ) (o r : Order) → k < o .count → o .count ≡ length (listed o) → Going (entries c) root k (listed o)
+      → Lists (take 255 (listed o ++ dependents (c .parents) (getD (o .at) k 0) (below (c .list .len)))) r
+      → (r .count ≤ 255) × Going (entries c) root (k + 1) (listed r)
+  goes-on k o r h n g e =
+      let l = listed o ++ kids (entries c) (getD (listed o) k 0) in
+      let more : Going (entries c) root (suc k) l = onward (c .list .len) (entries c) s root k (listed o) (omega arith) g in
+      let room : length l ≤ 255 = omega (arith, length-take (c .list .len) (c .list .entries), s .few, fits (c .list .len) (entries c) s root (suc k) l more, cascade-length (c .list .len) (entries c) s root b) in
+      let q : listed r ≡ l = e .list ∙ rw (listed-at o k h, found (getD (listed o) k 0)) (take-all 255 l room) in
+      (omega (arith, e .count, ap length q), rw (q, add-one k) more)
+
+abbrev Inv-loop : tie.InvT-loop
+Inv-loop chain root parents order₀ k₀ order k = (order .count ≤ 255) × (order .count ≡ length (listed order)) × Going (entries chain) root k (listed order)
+
+abbrev μ-loop : tie.MeasureT-loop
+μ-loop chain root parents order₀ k₀ order k = 255 - k
+
+cast-appended : tie.Need-cast-appended Inv-loop μ-loop
+cast-appended c =
+    let l = c .before .args .chain .list in
+    omega (arith, c .before .pre .1 .few, c .before .pre .2, length-take (l .len) (l .entries))
+
+appended-requires : tie.Need-appended-requires Inv-loop μ-loop
+appended-requires c κs = omega arith
+
+loop-holds : tie.Need-loop-holds Inv-loop μ-loop
+loop-holds c =
+    let a = c .before .before .args in
+    let p = c .before .before .pre in
+    let e = c .appended .ensures in
+    (small (a .root ∷ []) (c .appended .result) e, e .count, rw (e .list) (begun (a .chain .list .len) (entries (a .chain)) (p .1) (a .root) (p .2)))
+
+element-copy-out-holder : tie.Need-element-copy-out-holder Inv-loop μ-loop
+element-copy-out-holder c = omega arith
+
+with-dependents-requires : tie.Need-with-dependents-requires Inv-loop μ-loop
+with-dependents-requires c κs = (c .before .before .before .before .before .pre .1 .few, c .before .before .loop .inv .0)
+
+add-k : tie.Need-add-k Inv-loop μ-loop
+add-k c = omega arith
+
+loop-less : tie.Need-loop-less Inv-loop μ-loop
+loop-less c = omega arith
+
+loop-again : tie.Need-loop-again Inv-loop μ-loop
+loop-again c =
+    let l = c .before .before .before .loop in
+    let b = c .before .before .before .before .before .before in
+    let full : length (b .args .chain .list .entries) ≡ 255 = search (needs, unmap) in
+    let e = c .with-dependents .ensures in
+    let g = goes-on (b .args .chain) full (b .pre .0) (b .pre .1) (b .args .root) (b .pre .2) (l .k) (l .order) (c .with-dependents .result) (omega arith) (l .inv .1) (l .inv .2) e in
+    (g .0, e .count, g .1)
+
+returns : tie.Need-returns Inv-loop μ-loop
+returns c =
+    let l = c .before .loop in
+    let b = c .before .before .before .before in
+    record { list = over (b .args .chain .list .len) (entries (b .args .chain)) (b .pre .1) (b .args .root) (l .k) (listed (l .order)) (omega arith) (l .inv .2); count = l .inv .1 }
+
+pub cascade-order-spec : {M : Type 1} → statement M
+cascade-order-spec =
+    tie.close
+    (tie.spec
+    Inv-loop
+    μ-loop
+    cast-appended
+    appended-requires
+    loop-holds
+    element-copy-out-holder
+    with-dependents-requires
+    add-k
+    loop-less
+    loop-again
+    returns)

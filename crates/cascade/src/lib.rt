@@ -1,0 +1,70 @@
+// The components that a cascade gates, in order.
+ghost use mathlib.Core.List.{[], _∷_, _++_};
+ghost use Prim.Native.Nat.{_≤_, _<_};
+ghost use lib.ListN.{length, take};
+ghost use Rattle.model.specs.Chain.{Sound};
+ghost use Rattle.chain.specs.Tables.{entries, Charted};
+ghost use Rattle.cascade.specs.Cascade.{below, cascade};
+ghost use Rattle.cascade.specs.Order.{listed};
+ghost use Rattle.cascade.specs.Dependents.{dependents, Lists};
+use chain::Chain;
+
+// Positions of a chain, the first `count` of the array.
+pub struct Order {
+    pub at: [u8; 255],
+    pub count: usize,
+}
+
+// One position more, behind the others. A full order stays as it is: the test keeps the index in range, and no
+// cascade of an accepted chain is longer than the array.
+fn appended(mut order: Order, position: u8) -> Order
+    requires { ⌜ order .count ≤ 255 ⌝ }
+    ensures { λ r. ⌜ Lists (take 255 (listed order ++ (position ∷ []))) r ⌝ }
+{
+    let end = order.count;
+    if end < 255 {
+        order.at[end] = position;
+        order.count = end + 1;
+        return order;
+    }
+    order
+}
+
+// Behind the others, in chain order, those of the first `n` positions whose dependency stands at `holder`.
+fn with_dependents(parents: [u8; 255], n: usize, order: Order, holder: u8) -> Order
+    requires { ⌜ (n ≤ 255) × (order .count ≤ 255) ⌝ }
+    ensures { λ r. ⌜ Lists (take 255 (listed order ++ dependents parents holder (below n))) r ⌝ }
+{
+    let mut r = order;
+    let mut p: usize = 0;
+    while p < n {
+        if parents[p] == holder {
+            r = appended(r, p as u8);
+        }
+        p += 1;
+    }
+    r
+}
+
+// The order in which a cascade from `root` gates: a queue that starts with the root, and each position taken from
+// its front puts its direct dependents at its end. Only the table of dependency positions is compared, and nothing
+// is looked up in the order: in an accepted chain a component has one dependency, which stands strictly earlier, so
+// none is reached twice.
+pub fn cascade_order(chain: Chain, root: usize) -> Order
+    requires { ⌜ (Charted chain) × (Sound (chain .list .len) (entries chain)) × (root < length (entries chain)) ⌝ }
+    ensures { λ r. ⌜ Lists (cascade (entries chain) root) r ⌝ }
+{
+    let parents = chain.parents;
+    let empty = Order {
+        at: [0; 255],
+        count: 0,
+    };
+    let mut order = appended(empty, root as u8);
+    let mut k: usize = 0;
+    while k < order.count {
+        let holder = order.at[k];
+        order = with_dependents(parents, chain.list.len, order, holder);
+        k += 1;
+    }
+    order
+}

@@ -1,0 +1,5 @@
+-- The definitions that the contracts cite.
+pub mod Status
+pub mod Holds
+pub mod View
+pub mod Acts

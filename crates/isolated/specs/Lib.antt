@@ -1,0 +1,2 @@
+-- What the contracts of `isolated` cite.
+pub mod Flags

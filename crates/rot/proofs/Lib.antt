@@ -1,0 +1,8 @@
+-- Modules of proofs that belong to no one function.
+pub mod Choice
+pub mod Weight
+pub mod Bound
+pub mod Numbers
+pub mod Arms
+pub mod Named
+pub mod Readings

@@ -1,0 +1,4 @@
+-- The definitions that the contracts cite.
+pub mod Step
+pub mod Numbered
+pub mod Stepped

@@ -1,0 +1,4 @@
+-- Modules of proofs that belong to no one function.
+pub mod Every
+pub mod Rows
+pub mod Right

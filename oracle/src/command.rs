@@ -1,0 +1,105 @@
+//! The commands of a subject's program; see oracle/README.md.
+
+use std::env;
+use std::ffi::{OsStr, OsString};
+use std::fs;
+use std::io::{self, BufRead, BufWriter, Write};
+use std::path::Path;
+use std::process::ExitCode;
+
+use crate::compare::{compare, write_cases};
+use crate::subject::Subject;
+
+/// Runs the command that the arguments name.
+pub fn main<S: Subject>() -> ExitCode {
+    let arguments: Vec<OsString> = env::args_os().skip(1).collect();
+    let arguments: Vec<&OsStr> = arguments.iter().map(OsString::as_os_str).collect();
+    match run::<S>(&arguments) {
+        Ok(code) => code,
+        Err(message) => {
+            eprintln!("{}: {message}", S::NAME);
+            ExitCode::from(2)
+        }
+    }
+}
+
+fn usage<S: Subject>() -> String {
+    let name = S::NAME;
+    format!(
+        "usage: {name} answer
+       {name} generate SEED COUNT
+       {name} compare SEED COUNT PORT
+       {name} sample SEED FOLDER"
+    )
+}
+
+fn run<S: Subject>(arguments: &[&OsStr]) -> Result<ExitCode, String> {
+    let (command, rest) = arguments.split_first().ok_or_else(usage::<S>)?;
+    let done = |result: io::Result<()>| match result {
+        Ok(()) => Ok(ExitCode::SUCCESS),
+        Err(error) => Err(error.to_string()),
+    };
+    match (command.to_str(), rest) {
+        (Some("answer"), []) => done(print_answers::<S>()),
+        (Some("generate"), [seed, count]) => {
+            let output = BufWriter::new(io::stdout().lock());
+            done(write_cases::<S>(output, number(seed)?, number(count)?))
+        }
+        (Some("compare"), [seed, count, port]) => {
+            print_comparison::<S>(number(seed)?, number(count)?, port)
+                .map_err(|error| error.to_string())
+        }
+        (Some("sample"), [seed, folder]) => {
+            done(write_sample::<S>(number(seed)?, Path::new(folder)))
+        }
+        _ => Err(usage::<S>()),
+    }
+}
+
+fn number<T: std::str::FromStr>(argument: &OsStr) -> Result<T, String> {
+    argument
+        .to_str()
+        .and_then(|text| text.parse().ok())
+        .ok_or_else(|| format!("not a number: {argument:?}"))
+}
+
+/// Prints the answer to each case on standard input.
+fn print_answers<S: Subject>() -> io::Result<()> {
+    let mut output = BufWriter::new(io::stdout().lock());
+    for (index, line) in io::stdin().lock().lines().enumerate() {
+        let case = S::parse(&line?)
+            .map_err(|message| io::Error::other(format!("line {}: {message}", index + 1)))?;
+        writeln!(output, "{}", S::answer(&case))?;
+    }
+    output.flush()
+}
+
+/// Prints the failures and the counts; success only if nothing failed.
+fn print_comparison<S: Subject>(seed: u64, count: usize, port: &OsStr) -> io::Result<ExitCode> {
+    let outcome = compare::<S>(seed, count, port)?;
+    let mut output = io::stdout().lock();
+    for failure in &outcome.failures {
+        writeln!(output, "{failure}")?;
+    }
+    write!(output, "{}", outcome.counts)?;
+    writeln!(output, "differences {}", outcome.differences)?;
+    Ok(if outcome.failures.is_empty() {
+        ExitCode::SUCCESS
+    } else {
+        ExitCode::FAILURE
+    })
+}
+
+/// Writes `folder/stdin` with the sample's cases and `folder/stdout` with the
+/// oracle's answers.
+fn write_sample<S: Subject>(seed: u64, folder: &Path) -> io::Result<()> {
+    let sample = S::sample(seed);
+    let input: String = sample.iter().map(|case| format!("{case}\n")).collect();
+    let output: String = sample
+        .iter()
+        .map(|case| format!("{}\n", S::answer(case)))
+        .collect();
+    fs::create_dir_all(folder)?;
+    fs::write(folder.join("stdin"), input)?;
+    fs::write(folder.join("stdout"), output)
+}

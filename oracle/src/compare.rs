@@ -1,0 +1,180 @@
+//! Runs the port on generated cases and compares its answers with the oracle's.
+
+use std::ffi::OsStr;
+use std::fmt::Display;
+use std::io::{self, BufRead, BufReader, BufWriter, Write};
+use std::process::{Child, Command, Stdio};
+use std::thread;
+
+use crate::subject::{Counts, Subject};
+
+/// A comparison ends after this many differences.
+const MOST_DIFFERENCES: u64 = 10;
+
+/// What a comparison found.
+#[derive(Default)]
+pub struct Outcome<C> {
+    pub counts: C,
+    pub differences: u64,
+    /// Why the comparison failed; empty if the port agrees everywhere.
+    pub failures: Vec<String>,
+}
+
+/// Compares `count` cases. The port gets all of them on its standard input
+/// while its answers are read, so neither side waits for the other for ever.
+pub fn compare<S: Subject>(
+    seed: u64,
+    count: usize,
+    port: &OsStr,
+) -> io::Result<Outcome<S::Counts>> {
+    let mut child = Command::new(port)
+        .stdin(Stdio::piped())
+        .stdout(Stdio::piped())
+        .spawn()?;
+    let input = child.stdin.take().expect("a piped standard input");
+    let output = child.stdout.take().expect("a piped standard output");
+    let writer = thread::spawn(move || write_cases::<S>(BufWriter::new(input), seed, count));
+
+    let outcome = compare_answers::<S>(BufReader::new(output), seed, count);
+    let ended = end(
+        &mut child,
+        outcome.as_ref().is_ok_and(|o| o.failures.is_empty()),
+    )?;
+    let written = writer.join().expect("the writer does not panic");
+
+    let mut outcome = outcome?;
+    outcome.failures.extend(ended);
+    // After another failure the input was cut off on purpose.
+    if let (Err(error), true) = (written, outcome.failures.is_empty()) {
+        outcome.failures.push(format!("the port's input: {error}"));
+    }
+    outcome.failures.extend(outcome.counts.missed_minimums());
+    Ok(outcome)
+}
+
+/// Prints `count` cases of `seed`, one line each.
+pub fn write_cases<S: Subject>(mut output: impl Write, seed: u64, count: usize) -> io::Result<()> {
+    for case in S::cases(seed).take(count) {
+        writeln!(output, "{case}")?;
+    }
+    output.flush()
+}
+
+/// Waits for the port, or ends it after a failure, since it may wait for input
+/// that does not come. Gives a message if the port itself reports a failure.
+fn end(child: &mut Child, agreed: bool) -> io::Result<Option<String>> {
+    if !agreed {
+        // An error here means that the port has ended already.
+        let _ = child.kill();
+        child.wait()?;
+        return Ok(None);
+    }
+    let status = child.wait()?;
+    Ok((!status.success()).then(|| format!("the port ended with {status}")))
+}
+
+/// Reads the port's answers and makes the same cases again beside them, so that
+/// no case has to be kept.
+fn compare_answers<S: Subject>(
+    mut port: impl BufRead,
+    seed: u64,
+    count: usize,
+) -> io::Result<Outcome<S::Counts>> {
+    let mut outcome = Outcome::default();
+    for case in S::cases(seed).take(count) {
+        let expected = S::answer(&case);
+        let mut line = Vec::new();
+        if port.read_until(b'\n', &mut line)? == 0 {
+            let message = "the port printed too few lines".to_string();
+            outcome.failures.push(message);
+            return Ok(outcome);
+        }
+        outcome.counts.record(&case, &expected);
+        if line != format!("{expected}\n").into_bytes() {
+            outcome.differences += 1;
+            outcome.failures.push(difference(&case, &expected, &line));
+            if outcome.differences == MOST_DIFFERENCES {
+                return Ok(outcome);
+            }
+        }
+    }
+    if port.read(&mut [0])? != 0 {
+        let message = "the port printed too many lines".to_string();
+        outcome.failures.push(message);
+    }
+    Ok(outcome)
+}
+
+fn difference(case: &impl Display, expected: &impl Display, line: &[u8]) -> String {
+    let port = String::from_utf8_lossy(line);
+    format!("case {case}\noracle {expected}\nport {port:?}")
+}
+
+#[cfg(test)]
+mod tests {
+    use super::*;
+    use crate::lists::Lists;
+    use crate::steps::Steps;
+
+    const SEED: u64 = 11;
+    const COUNT: usize = 200;
+
+    fn right_answers<S: Subject>() -> Vec<u8> {
+        S::cases(SEED)
+            .take(COUNT)
+            .flat_map(|case| format!("{}\n", S::answer(&case)).into_bytes())
+            .collect()
+    }
+
+    fn failures<S: Subject>(port: &[u8]) -> Vec<String> {
+        compare_answers::<S>(port, SEED, COUNT).unwrap().failures
+    }
+
+    #[test]
+    fn right_answers_agree() {
+        assert!(failures::<Lists>(&right_answers::<Lists>()).is_empty());
+        assert!(failures::<Steps>(&right_answers::<Steps>()).is_empty());
+    }
+
+    #[test]
+    fn a_missing_line_is_found() {
+        let mut port = right_answers::<Lists>();
+        port.pop();
+        let end = port.iter().rposition(|byte| *byte == b'\n').unwrap();
+        port.truncate(end + 1);
+        assert_eq!(failures::<Lists>(&port), ["the port printed too few lines"]);
+    }
+
+    #[test]
+    fn a_line_too_many_is_found() {
+        let mut port = right_answers::<Lists>();
+        port.extend(b"0 0 0\n");
+        assert_eq!(
+            failures::<Lists>(&port),
+            ["the port printed too many lines"]
+        );
+    }
+
+    #[test]
+    fn a_last_line_without_its_end_is_a_difference() {
+        let mut port = right_answers::<Lists>();
+        port.pop();
+        assert_eq!(failures::<Lists>(&port).len(), 1);
+    }
+
+    #[test]
+    fn one_wrong_number_is_a_difference() {
+        let mut port = right_answers::<Steps>();
+        let last = port.len() - 2;
+        port[last] = if port[last] == b'9' { b'8' } else { b'9' };
+        assert_eq!(failures::<Steps>(&port).len(), 1);
+    }
+
+    #[test]
+    fn wrong_answers_end_the_comparison_after_ten() {
+        let port = b"9 9 9\n".repeat(COUNT);
+        let outcome = compare_answers::<Lists>(port.as_slice(), SEED, COUNT).unwrap();
+        assert_eq!(outcome.differences, MOST_DIFFERENCES);
+        assert_eq!(outcome.failures.len(), 10);
+    }
+}

@@ -1,0 +1,39 @@
+//! What the oracle is asked about. The commands and the comparison are the same
+//! for every subject.
+
+use std::fmt::Display;
+
+/// From this many cases on, a comparison must reach the minimums.
+pub const MINIMUMS_FROM: u64 = 100_000;
+
+pub trait Subject: 'static {
+    /// The name of its program.
+    const NAME: &'static str;
+    /// One line of input.
+    type Case: Display;
+    /// One line of output.
+    type Answer: Display;
+    type Counts: Counts<Self::Case, Self::Answer>;
+
+    /// Reads a case from a line without its byte 10.
+    fn parse(line: &str) -> Result<Self::Case, String>;
+
+    /// The oracle's answer.
+    fn answer(case: &Self::Case) -> Self::Answer;
+
+    /// Endless cases for a seed. The same seed gives the same cases.
+    fn cases(seed: u64) -> impl Iterator<Item = Self::Case>;
+
+    /// A small set of cases, to be kept as a test of the port.
+    fn sample(seed: u64) -> Vec<Self::Case>;
+}
+
+/// What a comparison has reached.
+pub trait Counts<Case, Answer>: Default + Display {
+    /// Counts one case with the oracle's answer.
+    fn record(&mut self, case: &Case, answer: &Answer);
+
+    /// One message for each minimum that is missed, if there were enough cases
+    /// to ask for them.
+    fn missed_minimums(&self) -> Vec<String>;
+}
