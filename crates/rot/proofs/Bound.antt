@@ -33,7 +33,10 @@ use Rattle.holds.specs.Status.{statusAt, iso, touch, quiet, booted, lift, retry
 use Rattle.holds.specs.Holds.{gates, gatesSay, seek, quiesced}
 use Rattle.holds.specs.View.{Core, Out, out, stay, after, inState, cursorAt, statusesAre, windowIs}
 use Rattle.entry.specs.Entry.{enterLocked, enterReady, enterUpdating, enterRecovering, enterWalk, onward}
-use Rattle.rules.specs.Rules.{releasedIn, pass, verifyFailed, gateThen, recover, corrupt, moveOn, timeout, byKind, bootFailed, noWait, progress, componentReady, retryAt, startOver, exhausted, restored, unavailable, power, attest, defer, abortion}
+use Rattle.updates.specs.Updates.{power, attest, defer}
+use Rattle.walks.specs.Walks.{releasedIn, pass, verifyFailed, noWait, progress, componentReady}
+use Rattle.corruption.specs.Corruption.{gateThen, recover, corrupt, moveOn, timeout, byKind, bootFailed, abortion}
+use Rattle.recovery.specs.Recovery.{retryAt, startOver, exhausted, restored, unavailable}
 use Rattle.rot.specs.Step.{rule, inChain, stepOf}
 use Rattle.rot.proofs.Choice.{byPolicyP, byKindP, byStateP}
 use Rattle.cascade.proofs.Below.{Within, within-one}

@@ -23,7 +23,7 @@ use Rattle.holds.specs.declared.ComponentStatus.{ComponentStatus}
 use Rattle.holds.specs.Status.{statusAt, iso, isolate, fresh}
 use Rattle.holds.specs.Holds.{gate, gateSays, gates, gatesSay}
 use Rattle.holds.specs.View.{Core, Out, stay}
-use Rattle.rules.specs.Rules.{corrupt}
+use Rattle.corruption.specs.Corruption.{corrupt}
 use Rattle.rot.proofs.Weight.{gate-length}
 
 -- ---- the gate at one position

@@ -8,9 +8,12 @@ use lib.ListN.{getD}
 use Rattle.model.specs.declared.Event.{Event}
 use Rattle.table.specs.Payload.{powerOf, bootOf}
 use Rattle.entry.specs.Entry.{enterLocked, enterUpdating}
-use Rattle.rules.specs.Rules.{pass, verifyFailed, corrupt, timeout, bootFailed, progress, componentReady, power, confirm, commitTimeout, attest, defer, updateVerified, updateRejected}
-use Rattle.rules.specs.Cases.{awaited, recovering, follows, before, restoredIn, unavailableIn}
-use Rattle.rules.specs.declared.Situation.the-variants.{Walking, Updated, Elsewhere}
+use Rattle.updates.specs.Updates.{power, confirm, commitTimeout, attest, defer, updateVerified, updateRejected}
+use Rattle.walks.specs.Walks.{pass, verifyFailed, progress, componentReady, awaited}
+use Rattle.corruption.specs.Corruption.{corrupt, timeout, bootFailed}
+use Rattle.corruption.specs.Cases.{follows, before}
+use Rattle.recovery.specs.Cases.{recovering, restoredIn, unavailableIn}
+use Rattle.corruption.specs.declared.Situation.the-variants.{Walking, Updated, Elsewhere}
 
 -- By number, for the event e and the component i that it names.
 unfoldable pub numbered : List Component → ℕ → Event → ComponentId → Core → List Out

@@ -16,7 +16,10 @@ use Rattle.model.specs.declared.Event.{Event}
 use Rattle.model.specs.declared.Event.the-variants.{PowerGood, VerificationPassed, VerificationFailed, ComponentReady, Booted, AttestationChallenge, UpdateRequest, UpdateVerified, UpdateRejected, BootConfirmed, CorruptionDetected, Restored, RecoveryUnavailable, RecoveryFailed, BootFailed, Timeout, CommitTimeout, EffectFailed}
 use Rattle.holds.specs.View.{Core, Out, stay}
 use Rattle.entry.specs.Entry.{enterLocked, enterUpdating}
-use Rattle.rules.specs.Rules.{pass, verifyFailed, corrupt, moveOn, timeout, bootFailed, progress, componentReady, restored, unavailable, power, confirm, commitTimeout, attest, defer, updateVerified, updateRejected, abortion}
+use Rattle.updates.specs.Updates.{power, confirm, commitTimeout, attest, defer, updateVerified, updateRejected}
+use Rattle.walks.specs.Walks.{pass, verifyFailed, progress, componentReady}
+use Rattle.corruption.specs.Corruption.{corrupt, moveOn, timeout, bootFailed, abortion}
+use Rattle.recovery.specs.Recovery.{restored, unavailable}
 
 -- One of seven answers, by the state.
 abbrev pub byState {ℓ} : {A : Type ℓ} → State → A → A → (OptionId → A) → A → A → (ComponentId → A) → A → A

@@ -7,13 +7,13 @@ ghost use Rattle.rot.specs.Numbered.{numberedBy};
 ghost use Rattle.rot.specs.Step.{stepOf};
 ghost use Rattle.rot.specs.Stepped.{bare, Stepped};
 use chain::Chain;
+use corruption::Situation;
 use holds::Rot;
 use holds::Work;
 use model::ComponentId;
 use model::Event;
 use model::OptionId;
 use model::State;
-use rules::Situation;
 use store::Sink;
 
 // The rule of a number from the table, for the event and the component that it names.
@@ -31,24 +31,24 @@ fn apply(
 {
     let state = w.state;
     match rule {
-        1 => rules::power_good(chain, w, table::power_on_result(event)),
-        2 => rules::verification_passed(chain, w, id, p),
-        3 => rules::verification_failed(chain, w, id, p),
-        4 => rules::component_ready(chain, w, id, p, rules::waits_in(state)),
-        5 => rules::clear_awaiting_boot(chain, w, id, p),
-        6 => rules::attestation_challenge(w),
+        1 => updates::power_good(chain, w, table::power_on_result(event)),
+        2 => walks::verification_passed(chain, w, id, p),
+        3 => walks::verification_failed(chain, w, id, p),
+        4 => walks::component_ready(chain, w, id, p, walks::waits_in(state)),
+        5 => walks::clear_awaiting_boot(chain, w, id, p),
+        6 => updates::attestation_challenge(w),
         7 => entry::enter_updating(w),
-        8 => rules::update_deferred(w),
-        9 => rules::update_verified(chain, w),
-        10 => rules::update_rejected(chain, w),
-        11 => rules::boot_confirmed(w, id),
-        12 => rules::handle_corruption(chain, w, id, p, Situation::Walking),
-        13 => rules::handle_corruption(chain, w, id, p, Situation::Elsewhere),
-        14 => rules::handle_corruption(chain, w, id, p, Situation::Updated),
-        15 => rules::restored(chain, max_retry, w, id, p, rules::recovers_in(state)),
-        16 => rules::recovery_unavailable(chain, w, id, p, rules::recovers_in(state)),
+        8 => updates::update_deferred(w),
+        9 => updates::update_verified(chain, w),
+        10 => updates::update_rejected(chain, w),
+        11 => updates::boot_confirmed(w, id),
+        12 => corruption::handle_corruption(chain, w, id, p, Situation::Walking),
+        13 => corruption::handle_corruption(chain, w, id, p, Situation::Elsewhere),
+        14 => corruption::handle_corruption(chain, w, id, p, Situation::Updated),
+        15 => recovery::restored(chain, max_retry, w, id, p, recovery::recovers_in(state)),
+        16 => recovery::recovery_unavailable(chain, w, id, p, recovery::recovers_in(state)),
         17 => entry::enter_locked(w),
-        18 => rules::boot_failed(
+        18 => corruption::boot_failed(
             chain,
             w,
             id,
@@ -56,7 +56,7 @@ fn apply(
             table::boot_failure(event),
             Situation::Walking,
         ),
-        19 => rules::boot_failed(
+        19 => corruption::boot_failed(
             chain,
             w,
             id,
@@ -64,8 +64,8 @@ fn apply(
             table::boot_failure(event),
             Situation::Elsewhere,
         ),
-        20 => rules::boot_timeout(chain, w, id, p, Situation::Elsewhere),
-        21 => rules::commit_timeout(w),
+        20 => corruption::boot_timeout(chain, w, id, p, Situation::Elsewhere),
+        21 => updates::commit_timeout(w),
         _ => w,
     }
 }

@@ -1,0 +1,43 @@
+-- Section 3: recovery, each rule from a machine to the next machine and the effects handed out.
+use mathlib.Core.List.{List, [], _∷_}
+use Prim.Native.Nat.{ℕ}
+use lib.Dec.{ltb}
+use Rattle.model.specs.Vocabulary.{pick}
+use Rattle.model.specs.Chain.{position, sameId}
+use Rattle.model.specs.declared.ComponentId.{ComponentId}
+use Rattle.model.specs.declared.Component.{Component}
+use Rattle.model.specs.declared.Event.the-variants.{RecoveryFailed}
+use Rattle.model.specs.declared.Effect.the-variants.{ReportRecoveryFailed, Emit}
+use Rattle.chain.specs.Links.{policyAt}
+use Rattle.cascade.specs.Cascade.{cascade}
+use Rattle.holds.specs.Status.{statusAt, touch, retryIs, bump}
+use Rattle.holds.specs.View.{Core, Out, out, stay, statusesAre}
+use Rattle.entry.specs.Entry.{enterWalk}
+use Rattle.corruption.specs.Corruption.{byPolicy, gateThen}
+
+-- The retry count of i is n.
+abbrev pub retryAt : List Component → ComponentId → ℕ → Core → Core
+retryAt ch i n c = statusesAre (touch (retryIs n) (c .statuses) (position ch i)) c
+
+-- The component starts over: retry 0, PreSupervision.
+abbrev pub startOver : List Component → ComponentId → Core → Out
+startOver ch i c = enterWalk ch (retryAt ch i 0 c)
+
+-- Exhaustion: Cascading cascades, Isolable gates, retry 0, PreSupervision. Required reports, and the state is kept.
+abbrev pub exhausted : List Component → ComponentId → Core → Out
+exhausted ch i c = byPolicy (policyAt ch (position ch i))
+    (out c (ReportRecoveryFailed i ∷ Emit RecoveryFailed ∷ []))
+    (gateThen ch (position ch i ∷ []) (startOver ch i) c)
+    (gateThen ch (cascade ch (position ch i)) (startOver ch i) c)
+
+-- Restored in Recovering(f), only for f: one retry more; below max_retry PreSupervision, else exhaustion.
+abbrev pub restored : List Component → ℕ → ComponentId → ComponentId → Core → Out
+restored ch max i f c = pick (sameId i f)
+    (pick (ltb (bump (statusAt (c .statuses) (position ch i) .retry)) max)
+    (enterWalk ch (retryAt ch i (bump (statusAt (c .statuses) (position ch i) .retry)) c))
+    (exhausted ch i (retryAt ch i (bump (statusAt (c .statuses) (position ch i) .retry)) c)))
+    (stay c)
+
+-- RecoveryUnavailable in Recovering(f), only for f: exhaustion.
+abbrev pub unavailable : List Component → ComponentId → ComponentId → Core → Out
+unavailable ch i f c = pick (sameId i f) (exhausted ch i c) (stay c)

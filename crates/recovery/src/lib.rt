@@ -1,0 +1,137 @@
+// Recovery: another try, or none any more. Each function takes the machine at work by value and hands it back; the effects
+// go into its sink in order.
+ghost use mathlib.Core.Path.{_≡_};
+ghost use Rattle.chain.specs.Tables.{entries};
+ghost use Rattle.holds.specs.Status.{bump};
+ghost use Rattle.holds.specs.View.{stay};
+ghost use Rattle.holds.specs.Acts.{Does, size};
+ghost use Rattle.entry.specs.Premise.{Placed};
+ghost use Rattle.recovery.specs.Recovery.{retryAt, startOver, exhausted};
+ghost use Rattle.recovery.specs.Cases.{recovering, restoredIn, unavailableIn};
+use chain::Chain;
+use holds::Work;
+use model::ComponentId;
+use model::Effect;
+use model::Event;
+use model::FailurePolicy;
+use model::OptionId;
+use model::State;
+use store::Status;
+
+// The component in recovery.
+pub fn recovers_in(state: State) -> OptionId
+    ensures { λ r. ⌜ r ≡ recovering state ⌝ }
+{
+    match state {
+        State::PowerOnReset => OptionId::None,
+        State::PreSupervision => OptionId::None,
+        State::AwaitingReady(_) => OptionId::None,
+        State::Ready => OptionId::None,
+        State::Updating => OptionId::None,
+        State::Recovering(f) => OptionId::Some(f),
+        State::Locked => OptionId::None,
+    }
+}
+
+fn set_retry(chain: Chain, w: Work, id: ComponentId, p: usize, retry: u8) -> Work
+    requires { ⌜ Placed chain w id p ⌝ }
+    ensures { λ r. ⌜ Does (size chain) w (λ c. stay (retryAt (entries chain) id retry c)) r ⌝ }
+{
+    let n = chain.count();
+    let rot = w.rot;
+    let s = holds::status_at(rot, n, p);
+    let counted = Status {
+        retry: retry,
+        awaiting_boot: s.awaiting_boot,
+        released: s.released,
+    };
+    holds::put_status(w, n, p, counted)
+}
+
+fn start_over(chain: Chain, w: Work, id: ComponentId, p: usize) -> Work
+    requires { ⌜ Placed chain w id p ⌝ }
+    ensures { λ r. ⌜ Does (size chain) w (startOver (entries chain) id) r ⌝ }
+{
+    let v = set_retry(chain, w, id, p, 0);
+    entry::enter_walk(chain, v)
+}
+
+// Recovery is over without success: a component that can be isolated is, and the rest boots; a Required one locks.
+fn exhaust_recovery(chain: Chain, w: Work, id: ComponentId, p: usize) -> Work
+    requires { ⌜ Placed chain w id p ⌝ }
+    ensures { λ r. ⌜ Does (size chain) w (exhausted (entries chain) id) r ⌝ }
+{
+    let policy = chain.policy_at(p);
+    match policy {
+        FailurePolicy::Required => {
+            let v = holds::say(w, Effect::ReportRecoveryFailed(id));
+            holds::say(v, Effect::Emit(Event::RecoveryFailed))
+        }
+        FailurePolicy::Isolable => {
+            let v = holds::gate_one(chain, w, p);
+            start_over(chain, v, id, p)
+        }
+        FailurePolicy::Cascading => {
+            let v = corruption::cascade_hold(chain, w, p);
+            start_over(chain, v, id, p)
+        }
+    }
+}
+
+// One retry more; the count stops at 255.
+fn bump_retry(retry: u8) -> u8
+    ensures { λ r. ⌜ r ≡ bump retry ⌝ }
+{
+    if retry < 255 { retry + 1 } else { 255 }
+}
+
+pub fn restored(
+    chain: Chain,
+    max_retry: u8,
+    w: Work,
+    id: ComponentId,
+    p: usize,
+    target: OptionId,
+) -> Work
+    requires { ⌜ Placed chain w id p ⌝ }
+    ensures { λ r. ⌜ Does (size chain) w (restoredIn (entries chain) «max_retry» id target) r ⌝ }
+{
+    match target {
+        OptionId::None => w,
+        OptionId::Some(failed) => {
+            if id.0 != failed.0 {
+                return w;
+            }
+            let n = chain.count();
+            let rot = w.rot;
+            let s = holds::status_at(rot, n, p);
+            let retry = bump_retry(s.retry);
+            let v = set_retry(chain, w, id, p, retry);
+            if retry < max_retry {
+                return entry::enter_walk(chain, v);
+            }
+            exhaust_recovery(chain, v, id, p)
+        }
+    }
+}
+
+pub fn recovery_unavailable(
+    chain: Chain,
+    w: Work,
+    id: ComponentId,
+    p: usize,
+    target: OptionId,
+) -> Work
+    requires { ⌜ Placed chain w id p ⌝ }
+    ensures { λ r. ⌜ Does (size chain) w (unavailableIn (entries chain) id target) r ⌝ }
+{
+    match target {
+        OptionId::None => w,
+        OptionId::Some(failed) => {
+            if id.0 != failed.0 {
+                return w;
+            }
+            exhaust_recovery(chain, w, id, p)
+        }
+    }
+}
