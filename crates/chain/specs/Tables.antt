@@ -12,6 +12,10 @@ use Rattle.chain.specs.declared.Chain.{Chain}
 abbrev pub entries : Chain → List Component
 entries c = entriesOf (c .list)
 
+-- The number of components.
+abbrev pub size : Chain → ℕ
+size chain = length (entries chain)
+
 -- The tables are those of the list.
 pub record Charted (c : Chain) : Type 0 where
   pub positions : (i : ℕ) → i < 256 → getD (c .positions) i 0 ≡ position (entries c) (idOf i)

@@ -1,27 +1,22 @@
 -- The outcome of each branch of a rule's function is the rule's, where its tests came out so.
-use mathlib.Core.Path.{_≡_, sym, ap, _∙_, subst}
-use mathlib.Core.Bool.{Bool, true}
+use mathlib.Core.Path.{_≡_, sym, ap, subst}
+use mathlib.Core.Bool.{true}
 use mathlib.Core.List.{List, [], _∷_, append-nil}
 use Prim.Native.Nat.{ℕ, zero, suc, _<_}
 use native.Mathlib.Omega.{arith}
 use lib.ListN.{length}
-use Rattle.model.specs.Vocabulary.{pick}
-use Rattle.model.specs.Chain.{position}
 use Rattle.model.specs.declared.Component.{Component}
-use Rattle.model.specs.declared.ComponentId.{ComponentId}
 use Rattle.model.specs.declared.Effect.{Effect}
-use Rattle.model.specs.declared.Effect.the-variants.{ReportBootFailed}
-use Rattle.model.specs.declared.BootFailureKind.{BootFailureKind}
-use Rattle.model.specs.declared.BootFailureKind.the-variants.{TimedOut, DeviceRetriable, DeviceFatal}
 use Rattle.cascade.specs.Cascade.{cascade}
-use Rattle.holds.specs.declared.Work.{Work}
-use Rattle.holds.specs.declared.ComponentStatus.{ComponentStatus}
-use Rattle.holds.specs.Status.{statusAt, iso}
+use Rattle.machine.specs.declared.Work.{Work}
+use Rattle.machine.specs.declared.ComponentStatus.{ComponentStatus}
+use Rattle.machine.specs.Status.{statusAt, iso}
 use Rattle.holds.specs.Holds.{gate, gateSays, gates, gatesSay}
-use Rattle.holds.specs.View.{Core, Out, out, stay, after, statusesAre, coreOf, Ran}
-use Rattle.holds.specs.Acts.{gating, gatingAll, Does}
-use Rattle.holds.proofs.Runs.{ran-as, ran-then}
-use Rattle.corruption.specs.Corruption.{gateThen, byKind, recover, corrupt, bootFailed}
+use Rattle.machine.specs.View.{Core, Out, out, statusesAre, coreOf, Ran}
+use Rattle.holds.specs.Acts.{gating, gatingAll}
+use Rattle.machine.specs.Acts.{Does}
+use Rattle.machine.proofs.Runs.{ran-as, ran-then}
+use Rattle.corruption.specs.Corruption.{gateThen}
 
 -- An isolated component is one of the chain's.
 pub gated-inside : (st : List ComponentStatus) (q : ℕ) → iso (statusAt st q) ≡ true → q < length st
@@ -41,21 +36,3 @@ module _ {n : ℕ} {w v r : Work} (ch : List Component) (p q : ℕ) (k : Core �
 
   pub hold-all : Does n w (gatingAll ch (cascade ch p)) v → Does n v k r → Ran n w (gateThen ch (cascade ch q) k (coreOf n w)) r
   hold-all a b = subst (λ (x : ℕ). Ran n w (gateThen ch (cascade ch x) k (coreOf n w)) r) here (ran-then k a b)
-
--- ---- a boot failure: which kind it is decides what follows the report
-module _ (a b : Out) (f : BootFailureKind) where
-  pub kind-timed : f ≡ TimedOut → a ≡ byKind f a b
-  kind-timed e = ap (λ (x : BootFailureKind). byKind x a b) (sym e)
-
-  pub kind-retriable : f ≡ DeviceRetriable → a ≡ byKind f a b
-  kind-retriable e = ap (λ (x : BootFailureKind). byKind x a b) (sym e)
-
-  pub kind-fatal : f ≡ DeviceFatal → b ≡ byKind f a b
-  kind-fatal e = ap (λ (x : BootFailureKind). byKind x a b) (sym e)
-
-pub reported-as : (ch : List Component) (k : Core → Out) (es : List Effect) (i : ComponentId) (n : ℕ) (f : BootFailureKind) (c : Core) (o : Out)
-    → statusAt (c .statuses) (position ch i) .«awaiting_boot» ≡ true → o ≡ byKind f (recover ch es i c) (corrupt ch k es i c)
-    → after (ReportBootFailed i n f ∷ []) o ≡ bootFailed ch k es i n f c
-reported-as ch k es i n f c o a e =
-    ap (after (ReportBootFailed i n f ∷ [])) e
-    ∙ ap (λ (t : Bool). pick t (after (ReportBootFailed i n f ∷ []) (byKind f (recover ch es i c) (corrupt ch k es i c))) (stay c)) (sym a)

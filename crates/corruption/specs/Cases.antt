@@ -2,7 +2,7 @@
 use mathlib.Core.List.{List, []}
 use Rattle.model.specs.declared.Component.{Component}
 use Rattle.model.specs.declared.Effect.{Effect}
-use Rattle.holds.specs.View.{Core, Out, stay}
+use Rattle.machine.specs.View.{Core, Out, stay}
 use Rattle.corruption.specs.Corruption.{moveOn, abortion}
 use Rattle.corruption.specs.declared.Situation.{Situation}
 use Rattle.corruption.specs.declared.Situation.the-variants.{Walking, Updated, Elsewhere}

@@ -1,4 +1,4 @@
--- Section 3: corruption and boot failure, each rule from a machine to the next machine and the effects handed out.
+-- Section 3: corruption, each rule from a machine to the next machine and the effects handed out.
 use mathlib.Core.List.{List, [], _∷_}
 use Prim.Native.Nat.{ℕ, suc}
 use Rattle.model.specs.Vocabulary.{pick}
@@ -7,15 +7,13 @@ use Rattle.model.specs.declared.ComponentId.{ComponentId}
 use Rattle.model.specs.declared.Component.{Component}
 use Rattle.model.specs.declared.FailurePolicy.{FailurePolicy}
 use Rattle.model.specs.declared.FailurePolicy.the-variants.{Required, Isolable, Cascading}
-use Rattle.model.specs.declared.BootFailureKind.{BootFailureKind}
-use Rattle.model.specs.declared.BootFailureKind.the-variants.{TimedOut, DeviceRetriable, DeviceFatal}
 use Rattle.model.specs.declared.Effect.{Effect}
-use Rattle.model.specs.declared.Effect.the-variants.{DiscardStaged, ReportBootFailed, ReportUpdateAborted}
+use Rattle.model.specs.declared.Effect.the-variants.{DiscardStaged, ReportUpdateAborted}
 use Rattle.chain.specs.Links.{policyAt}
 use Rattle.cascade.specs.Cascade.{cascade}
-use Rattle.holds.specs.Status.{statusAt, iso}
+use Rattle.machine.specs.Status.{statusAt, iso}
 use Rattle.holds.specs.Holds.{gates, gatesSay}
-use Rattle.holds.specs.View.{Core, Out, stay, after, statusesAre}
+use Rattle.machine.specs.View.{Core, Out, stay, after, statusesAre}
 use Rattle.entry.specs.Entry.{enterRecovering, onward}
 
 -- One of three answers, by the policy.
@@ -47,19 +45,3 @@ moveOn ch c = pick (iso (statusAt (c .statuses) (c .cursor))) (onward ch (suc (c
 -- What is lost with an update that a recovery preempts.
 abbrev pub abortion : List Effect
 abortion = DiscardStaged ∷ ReportUpdateAborted ∷ []
-
--- Timeout, only when awaiting_boot.
-abbrev pub timeout : List Component → List Effect → ComponentId → Core → Out
-timeout ch es i c = pick (statusAt (c .statuses) (position ch i) .«awaiting_boot») (recover ch es i c) (stay c)
-
--- One of two answers: the second for DeviceFatal.
-abbrev pub byKind {ℓ} : {A : Type ℓ} → BootFailureKind → A → A → A
-byKind TimedOut a b = a
-byKind DeviceRetriable a b = a
-byKind DeviceFatal a b = b
-
--- BootFailed, only when awaiting_boot: reported; for DeviceFatal the corruption rule, otherwise Recovering.
-abbrev pub bootFailed : List Component → (Core → Out) → List Effect → ComponentId → ℕ → BootFailureKind → Core → Out
-bootFailed ch k es i n f c = pick (statusAt (c .statuses) (position ch i) .«awaiting_boot»)
-    (after (ReportBootFailed i n f ∷ []) (byKind f (recover ch es i c) (corrupt ch k es i c)))
-    (stay c)

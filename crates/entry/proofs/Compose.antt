@@ -4,10 +4,11 @@ use mathlib.Core.Path.{_≡_, sym, subst}
 use Prim.Native.Nat.{ℕ}
 use Rattle.model.specs.declared.ComponentId.{ComponentId}
 use Rattle.chain.specs.declared.Chain.{Chain}
-use Rattle.holds.specs.declared.Rot.{Rot}
-use Rattle.holds.specs.declared.Work.{Work}
-use Rattle.holds.specs.View.{Core, Out, Fit}
-use Rattle.holds.specs.Acts.{Does, size}
+use Rattle.machine.specs.declared.Rot.{Rot}
+use Rattle.machine.specs.declared.Work.{Work}
+use Rattle.machine.specs.View.{Core, Out, Fit}
+use Rattle.machine.specs.Acts.{Does}
+use Rattle.chain.specs.Tables.{size}
 use Rattle.entry.specs.Premise.{Sane, Placed}
 
 pub fit-at : {n m : ℕ} {r : Rot} → m ≡ n → Fit n r → Fit m r

@@ -6,10 +6,10 @@ use Prim.Native.Nat.{ℕ}
 use Rattle.model.specs.declared.Component.{Component}
 use Rattle.model.specs.declared.FailurePolicy.{FailurePolicy}
 use Rattle.chain.specs.Links.{policyAt}
-use Rattle.holds.specs.declared.Rot.{Rot}
-use Rattle.holds.specs.declared.ComponentStatus.{ComponentStatus}
-use Rattle.holds.specs.Status.{statusAt, iso}
-use Rattle.holds.specs.View.{statusesOf}
+use Rattle.machine.specs.declared.Rot.{Rot}
+use Rattle.machine.specs.declared.ComponentStatus.{ComponentStatus}
+use Rattle.machine.specs.Status.{statusAt, iso}
+use Rattle.machine.specs.View.{statusesOf}
 
 module _ (rot : Rot) (m n p q : ℕ) (e : m ≡ n) (here : p ≡ q) where
   pub status-now : (s : ComponentStatus) → s ≡ statusAt (statusesOf m rot) p → s ≡ statusAt (statusesOf n rot) q

@@ -13,11 +13,11 @@ use Rattle.model.specs.declared.State.{State}
 use Rattle.model.specs.declared.State.the-variants.{Recovering}
 use Rattle.model.specs.declared.Effect.the-variants.{RecoverComponent}
 use Rattle.store.specs.declared.Status.{Status}
-use Rattle.holds.specs.declared.ComponentStatus.{ComponentStatus}
-use Rattle.holds.specs.Status.{statusAt, touch, quiet}
-use Rattle.holds.specs.Holds.{seek, verifySays}
-use Rattle.holds.specs.View.{Core, out, stay, after, inState, cursorAt, statusesAre, windowIs, stored}
-use Rattle.holds.specs.Acts.{putting}
+use Rattle.machine.specs.declared.ComponentStatus.{ComponentStatus}
+use Rattle.machine.specs.Status.{statusAt, touch, quiet}
+use Rattle.advance.specs.Advance.{seek, verifySays}
+use Rattle.machine.specs.View.{Core, out, stay, after, inState, cursorAt, statusesAre, windowIs, stored}
+use Rattle.machine.specs.Acts.{putting}
 use Rattle.entry.specs.Entry.{enterReady, enterRecovering, onward}
 
 -- What is stored at p is the status there changed by f.

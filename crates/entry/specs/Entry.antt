@@ -11,9 +11,9 @@ use Rattle.model.specs.declared.Component.{Component}
 use Rattle.model.specs.declared.State.{State}
 use Rattle.model.specs.declared.State.the-variants.{PreSupervision, Ready, Updating, Recovering, Locked}
 use Rattle.model.specs.declared.Effect.the-variants.{AuthenticateUpdate, StageUpdate, RecoverComponent, LatchLockdown}
-use Rattle.holds.specs.Status.{statusAt, touch, quiet, retryIs}
-use Rattle.holds.specs.Holds.{seek, verifySays, quietSays, quiesced}
-use Rattle.holds.specs.View.{Core, Out, out, stay, inState, cursorAt, statusesAre, windowIs}
+use Rattle.machine.specs.Status.{statusAt, touch, quiet, retryIs}
+use Rattle.advance.specs.Advance.{seek, verifySays, quietSays, quiesced}
+use Rattle.machine.specs.View.{Core, Out, out, stay, inState, cursorAt, statusesAre, windowIs}
 
 abbrev pub enterLocked : Core → Out
 enterLocked c = out (inState Locked c) (LatchLockdown ∷ [])

@@ -4,10 +4,10 @@ use mathlib.Core.Path.{_≡_}
 use Rattle.model.specs.declared.ComponentId.{ComponentId}
 use Rattle.model.specs.Chain.{position, Sound}
 use Rattle.chain.specs.declared.Chain.{Chain}
-use Rattle.chain.specs.Tables.{entries, Charted}
-use Rattle.holds.specs.declared.Work.{Work}
-use Rattle.holds.specs.View.{Core, Out, Fit}
-use Rattle.holds.specs.Acts.{Does, size}
+use Rattle.chain.specs.Tables.{entries, Charted, size}
+use Rattle.machine.specs.declared.Work.{Work}
+use Rattle.machine.specs.View.{Core, Out, Fit}
+use Rattle.machine.specs.Acts.{Does}
 
 -- An accepted chain with its own tables, and a machine that fits it.
 pub record Sane (c : Chain) (w : Work) : Type 0 where

@@ -7,7 +7,7 @@ use Rattle.model.specs.declared.OptionId.{OptionId}
 use Rattle.model.specs.declared.OptionId.the-variants.{None, Some}
 use Rattle.model.specs.declared.State.{State}
 use Rattle.model.specs.declared.State.the-variants.{PowerOnReset, PreSupervision, AwaitingReady, Ready, Updating, Recovering, Locked}
-use Rattle.holds.specs.View.{Core, Out, stay}
+use Rattle.machine.specs.View.{Core, Out, stay}
 use Rattle.recovery.specs.Recovery.{restored, unavailable}
 
 -- The component in recovery, if the state has one.

@@ -10,8 +10,8 @@ use Rattle.model.specs.declared.Event.the-variants.{RecoveryFailed}
 use Rattle.model.specs.declared.Effect.the-variants.{ReportRecoveryFailed, Emit}
 use Rattle.chain.specs.Links.{policyAt}
 use Rattle.cascade.specs.Cascade.{cascade}
-use Rattle.holds.specs.Status.{statusAt, touch, retryIs, bump}
-use Rattle.holds.specs.View.{Core, Out, out, stay, statusesAre}
+use Rattle.machine.specs.Status.{statusAt, touch, retryIs, bump}
+use Rattle.machine.specs.View.{Core, Out, out, stay, statusesAre}
 use Rattle.entry.specs.Entry.{enterWalk}
 use Rattle.corruption.specs.Corruption.{byPolicy, gateThen}
 

@@ -1,15 +1,15 @@
 // Recovery: another try, or none any more. Each function takes the machine at work by value and hands it back; the effects
 // go into its sink in order.
 ghost use mathlib.Core.Path.{_≡_};
-ghost use Rattle.chain.specs.Tables.{entries};
-ghost use Rattle.holds.specs.Status.{bump};
-ghost use Rattle.holds.specs.View.{stay};
-ghost use Rattle.holds.specs.Acts.{Does, size};
+ghost use Rattle.chain.specs.Tables.{entries, size};
+ghost use Rattle.machine.specs.Status.{bump};
+ghost use Rattle.machine.specs.View.{stay};
+ghost use Rattle.machine.specs.Acts.{Does};
 ghost use Rattle.entry.specs.Premise.{Placed};
 ghost use Rattle.recovery.specs.Recovery.{retryAt, startOver, exhausted};
 ghost use Rattle.recovery.specs.Cases.{recovering, restoredIn, unavailableIn};
 use chain::Chain;
-use holds::Work;
+use machine::Work;
 use model::ComponentId;
 use model::Effect;
 use model::Event;
@@ -39,13 +39,13 @@ fn set_retry(chain: Chain, w: Work, id: ComponentId, p: usize, retry: u8) -> Wor
 {
     let n = chain.count();
     let rot = w.rot;
-    let s = holds::status_at(rot, n, p);
+    let s = machine::status_at(rot, n, p);
     let counted = Status {
         retry: retry,
         awaiting_boot: s.awaiting_boot,
         released: s.released,
     };
-    holds::put_status(w, n, p, counted)
+    machine::put_status(w, n, p, counted)
 }
 
 fn start_over(chain: Chain, w: Work, id: ComponentId, p: usize) -> Work
@@ -64,8 +64,8 @@ fn exhaust_recovery(chain: Chain, w: Work, id: ComponentId, p: usize) -> Work
     let policy = chain.policy_at(p);
     match policy {
         FailurePolicy::Required => {
-            let v = holds::say(w, Effect::ReportRecoveryFailed(id));
-            holds::say(v, Effect::Emit(Event::RecoveryFailed))
+            let v = machine::say(w, Effect::ReportRecoveryFailed(id));
+            machine::say(v, Effect::Emit(Event::RecoveryFailed))
         }
         FailurePolicy::Isolable => {
             let v = holds::gate_one(chain, w, p);
@@ -104,7 +104,7 @@ pub fn restored(
             }
             let n = chain.count();
             let rot = w.rot;
-            let s = holds::status_at(rot, n, p);
+            let s = machine::status_at(rot, n, p);
             let retry = bump_retry(s.retry);
             let v = set_retry(chain, w, id, p, retry);
             if retry < max_retry {

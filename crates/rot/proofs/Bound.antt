@@ -28,20 +28,22 @@ use Rattle.model.specs.declared.Effect.the-variants.{ReleaseReset, SignAttestat
 use Rattle.model.proofs.Pick.{pickP}
 use Rattle.chain.specs.Links.{policyAt, kindAt}
 use Rattle.cascade.specs.Cascade.{cascade}
-use Rattle.holds.specs.declared.ComponentStatus.{ComponentStatus}
-use Rattle.holds.specs.Status.{statusAt, iso, touch, quiet, booted, lift, retryIs, bump}
-use Rattle.holds.specs.Holds.{gates, gatesSay, seek, quiesced}
-use Rattle.holds.specs.View.{Core, Out, out, stay, after, inState, cursorAt, statusesAre, windowIs}
+use Rattle.machine.specs.declared.ComponentStatus.{ComponentStatus}
+use Rattle.machine.specs.Status.{statusAt, iso, touch, quiet, booted, lift, retryIs, bump}
+use Rattle.holds.specs.Holds.{gates, gatesSay}
+use Rattle.advance.specs.Advance.{seek, quiesced}
+use Rattle.machine.specs.View.{Core, Out, out, stay, after, inState, cursorAt, statusesAre, windowIs}
 use Rattle.entry.specs.Entry.{enterLocked, enterReady, enterUpdating, enterRecovering, enterWalk, onward}
 use Rattle.updates.specs.Updates.{power, attest, defer}
 use Rattle.walks.specs.Walks.{releasedIn, pass, verifyFailed, noWait, progress, componentReady}
-use Rattle.corruption.specs.Corruption.{gateThen, recover, corrupt, moveOn, timeout, byKind, bootFailed, abortion}
+use Rattle.corruption.specs.Corruption.{gateThen, recover, corrupt, moveOn, abortion}
+use Rattle.failures.specs.Failures.{timeout, byKind, bootFailed}
 use Rattle.recovery.specs.Recovery.{retryAt, startOver, exhausted, restored, unavailable}
 use Rattle.rot.specs.Step.{rule, inChain, stepOf}
 use Rattle.rot.proofs.Choice.{byPolicyP, byKindP, byStateP}
 use Rattle.cascade.proofs.Below.{Within, within-one}
 use Rattle.cascade.proofs.Closed.{cascade-within}
-use Rattle.holds.proofs.Laws.{seek-le}
+use Rattle.advance.proofs.Laws.{seek-le}
 use Rattle.rot.proofs.Weight.{gates-length, weight, weight-most, weight-touch, gates-cost, advance-cost, walk-cost}
 
 -- A machine with n statuses, whose cursor is at most n if it was so at the start, where it was q.

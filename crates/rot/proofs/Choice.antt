@@ -7,7 +7,8 @@ use Rattle.model.specs.declared.BootFailureKind.{BootFailureKind}
 use Rattle.model.specs.declared.BootFailureKind.the-variants.{TimedOut, DeviceRetriable, DeviceFatal}
 use Rattle.model.specs.declared.State.{State}
 use Rattle.model.specs.declared.State.the-variants.{PowerOnReset, PreSupervision, AwaitingReady, Ready, Updating, Recovering, Locked}
-use Rattle.corruption.specs.Corruption.{byPolicy, byKind}
+use Rattle.corruption.specs.Corruption.{byPolicy}
+use Rattle.failures.specs.Failures.{byKind}
 use Rattle.rot.specs.Step.{byState}
 
 pub byPolicyP {ℓ ℓ′} : {A : Type ℓ} (P : A → Type ℓ′) (p : FailurePolicy) {a b c : A} → P a → P b → P c → P (byPolicy p a b c)

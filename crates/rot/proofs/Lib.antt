@@ -3,6 +3,5 @@ pub mod Choice
 pub mod Weight
 pub mod Bound
 pub mod Numbers
-pub mod Arms
 pub mod Named
 pub mod Readings

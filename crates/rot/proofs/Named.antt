@@ -13,8 +13,8 @@ use Rattle.model.specs.declared.OptionId.{OptionId}
 use Rattle.model.specs.declared.OptionId.the-variants.{None, Some}
 use Rattle.model.specs.declared.Event.{Event}
 use Rattle.table.specs.Table.{ruleNo}
-use Rattle.holds.specs.View.{Core, stay}
-use Rattle.rot.specs.Numbered.{numberedBy}
+use Rattle.machine.specs.View.{Core, stay}
+use Rattle.numbered.specs.Numbered.{numberedBy}
 use Rattle.rot.specs.Step.{rule, inChain, stepOf}
 use Rattle.rot.proofs.Numbers.{whom, numbers-right}
 

@@ -13,9 +13,9 @@ use Rattle.model.specs.declared.State.the-variants.{PowerOnReset, PreSupervisio
 use Rattle.model.specs.declared.Event.{Event}
 use Rattle.model.specs.declared.Event.the-variants.{PowerGood, VerificationPassed, VerificationFailed, ComponentReady, Booted, AttestationChallenge, UpdateRequest, UpdateVerified, UpdateRejected, BootConfirmed, CorruptionDetected, Restored, RecoveryUnavailable, RecoveryFailed, BootFailed, Timeout, CommitTimeout, EffectFailed}
 use Rattle.table.specs.Table.{table, ruleNo}
-use Rattle.holds.specs.declared.ComponentStatus.{ComponentStatus}
-use Rattle.holds.specs.View.{Core}
-use Rattle.rot.specs.Numbered.{numbered, numberedBy}
+use Rattle.machine.specs.declared.ComponentStatus.{ComponentStatus}
+use Rattle.machine.specs.View.{Core}
+use Rattle.numbered.specs.Numbered.{numbered, numberedBy}
 use Rattle.rot.specs.Step.{rule}
 
 -- The component that an event names, or j where it names none.

@@ -19,10 +19,10 @@ use Rattle.chain.specs.Links.{parent, policyAt}
 use Rattle.cascade.specs.Cascade.{cascade}
 use Rattle.cascade.proofs.Below.{by-test, in-cons}
 use Rattle.cascade.proofs.Closed.{cascade-closed}
-use Rattle.holds.specs.declared.ComponentStatus.{ComponentStatus}
-use Rattle.holds.specs.Status.{statusAt, iso, isolate, fresh}
-use Rattle.holds.specs.Holds.{gate, gateSays, gates, gatesSay}
-use Rattle.holds.specs.View.{Core, Out, stay}
+use Rattle.machine.specs.declared.ComponentStatus.{ComponentStatus}
+use Rattle.machine.specs.Status.{statusAt, iso, fresh}
+use Rattle.holds.specs.Holds.{isolate, gate, gateSays, gates, gatesSay}
+use Rattle.machine.specs.View.{Core, Out, stay}
 use Rattle.corruption.specs.Corruption.{corrupt}
 use Rattle.rot.proofs.Weight.{gate-length}
 

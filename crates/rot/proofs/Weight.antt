@@ -13,9 +13,10 @@ use Rattle.model.specs.Vocabulary.{pick}
 use Rattle.model.specs.declared.Component.{Component}
 use Rattle.model.specs.declared.Effect.{Effect}
 use Rattle.model.proofs.Pick.{pickP}
-use Rattle.holds.specs.declared.ComponentStatus.{ComponentStatus}
-use Rattle.holds.specs.Status.{statusAt, iso, touch, isolate}
-use Rattle.holds.specs.Holds.{gate, gateSays, gates, gatesSay, isolatedAhead, seek, verifySays, quietSays, quiesced}
+use Rattle.machine.specs.declared.ComponentStatus.{ComponentStatus}
+use Rattle.machine.specs.Status.{statusAt, iso, touch}
+use Rattle.holds.specs.Holds.{isolate, gate, gateSays, gates, gatesSay}
+use Rattle.advance.specs.Advance.{isolatedAhead, seek, verifySays, quietSays, quiesced}
 use Rattle.cascade.proofs.Below.{by-test, Within}
 
 -- ---- Lengths: a gate keeps the number of statuses, and so does a list of gates.

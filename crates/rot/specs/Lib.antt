@@ -1,4 +1,3 @@
 -- The definitions that the contracts cite.
 pub mod Step
-pub mod Numbered
 pub mod Stepped

@@ -14,11 +14,12 @@ use Rattle.model.specs.declared.State.{State}
 use Rattle.model.specs.declared.State.the-variants.{PowerOnReset, PreSupervision, AwaitingReady, Ready, Updating, Recovering, Locked}
 use Rattle.model.specs.declared.Event.{Event}
 use Rattle.model.specs.declared.Event.the-variants.{PowerGood, VerificationPassed, VerificationFailed, ComponentReady, Booted, AttestationChallenge, UpdateRequest, UpdateVerified, UpdateRejected, BootConfirmed, CorruptionDetected, Restored, RecoveryUnavailable, RecoveryFailed, BootFailed, Timeout, CommitTimeout, EffectFailed}
-use Rattle.holds.specs.View.{Core, Out, stay}
+use Rattle.machine.specs.View.{Core, Out, stay}
 use Rattle.entry.specs.Entry.{enterLocked, enterUpdating}
 use Rattle.updates.specs.Updates.{power, confirm, commitTimeout, attest, defer, updateVerified, updateRejected}
 use Rattle.walks.specs.Walks.{pass, verifyFailed, progress, componentReady}
-use Rattle.corruption.specs.Corruption.{corrupt, moveOn, timeout, bootFailed, abortion}
+use Rattle.corruption.specs.Corruption.{corrupt, moveOn, abortion}
+use Rattle.failures.specs.Failures.{timeout, bootFailed}
 use Rattle.recovery.specs.Recovery.{restored, unavailable}
 
 -- One of seven answers, by the state.

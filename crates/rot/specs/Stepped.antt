@@ -5,12 +5,11 @@ use lib.ListN.{length}
 use Rattle.model.specs.declared.State.{State}
 use Rattle.model.specs.declared.Event.{Event}
 use Rattle.chain.specs.declared.Chain.{Chain}
-use Rattle.chain.specs.Tables.{entries}
+use Rattle.chain.specs.Tables.{entries, size}
 use Rattle.store.specs.Sink.{emptySink, held}
-use Rattle.holds.specs.declared.Rot.{Rot}
-use Rattle.holds.specs.declared.Work.{Work}
-use Rattle.holds.specs.View.{Out, coreOf, Fit}
-use Rattle.holds.specs.Acts.{size}
+use Rattle.machine.specs.declared.Rot.{Rot}
+use Rattle.machine.specs.declared.Work.{Work}
+use Rattle.machine.specs.View.{Out, coreOf, Fit}
 use Rattle.rot.specs.Step.{stepOf}
 
 -- A machine at work on nothing yet.

@@ -1,74 +1,19 @@
 // The step: one event, by the table of rules.
-ghost use Rattle.chain.specs.Tables.{entries};
-ghost use Rattle.holds.specs.Acts.{Does, size};
+ghost use Rattle.chain.specs.Tables.{entries, size};
+ghost use Rattle.machine.specs.Acts.{Does};
 ghost use Rattle.table.specs.Table.{ruleNo};
 ghost use Rattle.entry.specs.Premise.{Sane, Placed};
-ghost use Rattle.rot.specs.Numbered.{numberedBy};
+ghost use Rattle.numbered.specs.Numbered.{numberedBy};
 ghost use Rattle.rot.specs.Step.{stepOf};
 ghost use Rattle.rot.specs.Stepped.{bare, Stepped};
 use chain::Chain;
-use corruption::Situation;
-use holds::Rot;
-use holds::Work;
+use machine::Rot;
+use machine::Work;
 use model::ComponentId;
 use model::Event;
 use model::OptionId;
 use model::State;
 use store::Sink;
-
-// The rule of a number from the table, for the event and the component that it names.
-fn apply(
-    chain: Chain,
-    max_retry: u8,
-    w: Work,
-    event: Event,
-    id: ComponentId,
-    p: usize,
-    rule: u8,
-) -> Work
-    requires { ⌜ Placed chain w id p ⌝ }
-    ensures { λ r. ⌜ Does (size chain) w (numberedBy (entries chain) «max_retry» event id rule) r ⌝ }
-{
-    let state = w.state;
-    match rule {
-        1 => updates::power_good(chain, w, table::power_on_result(event)),
-        2 => walks::verification_passed(chain, w, id, p),
-        3 => walks::verification_failed(chain, w, id, p),
-        4 => walks::component_ready(chain, w, id, p, walks::waits_in(state)),
-        5 => walks::clear_awaiting_boot(chain, w, id, p),
-        6 => updates::attestation_challenge(w),
-        7 => entry::enter_updating(w),
-        8 => updates::update_deferred(w),
-        9 => updates::update_verified(chain, w),
-        10 => updates::update_rejected(chain, w),
-        11 => updates::boot_confirmed(w, id),
-        12 => corruption::handle_corruption(chain, w, id, p, Situation::Walking),
-        13 => corruption::handle_corruption(chain, w, id, p, Situation::Elsewhere),
-        14 => corruption::handle_corruption(chain, w, id, p, Situation::Updated),
-        15 => recovery::restored(chain, max_retry, w, id, p, recovery::recovers_in(state)),
-        16 => recovery::recovery_unavailable(chain, w, id, p, recovery::recovers_in(state)),
-        17 => entry::enter_locked(w),
-        18 => corruption::boot_failed(
-            chain,
-            w,
-            id,
-            p,
-            table::boot_failure(event),
-            Situation::Walking,
-        ),
-        19 => corruption::boot_failed(
-            chain,
-            w,
-            id,
-            p,
-            table::boot_failure(event),
-            Situation::Elsewhere,
-        ),
-        20 => corruption::boot_timeout(chain, w, id, p, Situation::Elsewhere),
-        21 => updates::commit_timeout(w),
-        _ => w,
-    }
-}
 
 // The table is read before anything is done.
 fn react(chain: Chain, max_retry: u8, w: Work, event: Event, id: ComponentId, p: usize) -> Work
@@ -77,7 +22,7 @@ fn react(chain: Chain, max_retry: u8, w: Work, event: Event, id: ComponentId, p:
 {
     let state = w.state;
     let rule = table::rule_number(state, event);
-    apply(chain, max_retry, w, event, id, p, rule)
+    numbered::apply(chain, max_retry, w, event, id, p, rule)
 }
 
 // One event. One that names an id outside the chain does nothing; one that names none needs no position.

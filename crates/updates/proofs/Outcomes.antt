@@ -2,7 +2,7 @@
 use mathlib.Core.Path.{_≡_, sym, ap}
 use mathlib.Core.Bool.{Bool, true, false}
 use Rattle.model.specs.Vocabulary.{pick}
-use Rattle.holds.specs.View.{Core, stay}
+use Rattle.machine.specs.View.{Core, stay}
 use Rattle.entry.specs.Entry.{enterLocked}
 use Rattle.updates.specs.Updates.{commitTimeout}
 

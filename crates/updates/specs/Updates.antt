@@ -7,7 +7,7 @@ use Rattle.model.specs.declared.Component.{Component}
 use Rattle.model.specs.declared.PowerOnResult.{PowerOnResult}
 use Rattle.model.specs.declared.PowerOnResult.the-variants.{Provisioned, Unprovisioned, SelfVerificationFailed}
 use Rattle.model.specs.declared.Effect.the-variants.{SignAttestation, ActivateUpdate, DiscardStaged, CommitSvnFloor, ReportUpdateDeferred}
-use Rattle.holds.specs.View.{Core, Out, out, stay, after, windowIs}
+use Rattle.machine.specs.View.{Core, Out, out, stay, after, windowIs}
 use Rattle.entry.specs.Entry.{enterLocked, enterReady, enterWalk}
 
 -- PowerGood: Provisioned, PreSupervision; the two others, Locked.

@@ -1,11 +1,11 @@
 // Power, attestation and updates: the rules that decide on no one component. Each function takes the machine at work by
 // value and hands it back; the effects go into its sink in order.
-ghost use Rattle.chain.specs.Tables.{entries};
-ghost use Rattle.holds.specs.Acts.{Does, size};
+ghost use Rattle.chain.specs.Tables.{entries, size};
+ghost use Rattle.machine.specs.Acts.{Does};
 ghost use Rattle.entry.specs.Premise.{Sane, DoesAll};
 ghost use Rattle.updates.specs.Updates.{power, attest, defer, confirm, commitTimeout, updateVerified, updateRejected};
 use chain::Chain;
-use holds::Work;
+use machine::Work;
 use model::ComponentId;
 use model::Effect;
 use model::PowerOnResult;
@@ -24,20 +24,20 @@ pub fn power_good(chain: Chain, w: Work, result: PowerOnResult) -> Work
 pub fn attestation_challenge(w: Work) -> Work
     ensures { λ r. ⌜ DoesAll w attest r ⌝ }
 {
-    holds::say(w, Effect::SignAttestation)
+    machine::say(w, Effect::SignAttestation)
 }
 
 pub fn update_deferred(w: Work) -> Work
     ensures { λ r. ⌜ DoesAll w defer r ⌝ }
 {
-    holds::say(w, Effect::ReportUpdateDeferred)
+    machine::say(w, Effect::ReportUpdateDeferred)
 }
 
 pub fn boot_confirmed(w: Work, id: ComponentId) -> Work
     ensures { λ r. ⌜ DoesAll w (confirm id) r ⌝ }
 {
-    let v = holds::say(w, Effect::CommitSvnFloor(id));
-    holds::with_window(v, false)
+    let v = machine::say(w, Effect::CommitSvnFloor(id));
+    machine::with_window(v, false)
 }
 
 // Only while an activated update waits for its commit.
@@ -55,8 +55,8 @@ pub fn update_verified(chain: Chain, w: Work) -> Work
     requires { ⌜ Sane chain w ⌝ }
     ensures { λ r. ⌜ Does (size chain) w updateVerified r ⌝ }
 {
-    let v = holds::say(w, Effect::ActivateUpdate);
-    let u = holds::with_window(v, true);
+    let v = machine::say(w, Effect::ActivateUpdate);
+    let u = machine::with_window(v, true);
     entry::enter_ready(chain, u)
 }
 
@@ -64,6 +64,6 @@ pub fn update_rejected(chain: Chain, w: Work) -> Work
     requires { ⌜ Sane chain w ⌝ }
     ensures { λ r. ⌜ Does (size chain) w updateRejected r ⌝ }
 {
-    let v = holds::say(w, Effect::DiscardStaged);
+    let v = machine::say(w, Effect::DiscardStaged);
     entry::enter_ready(chain, v)
 }

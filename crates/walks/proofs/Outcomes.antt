@@ -10,8 +10,8 @@ use Rattle.model.specs.declared.ComponentId.{ComponentId}
 use Rattle.model.specs.declared.State.{State}
 use Rattle.model.specs.declared.Effect.the-variants.{ReleaseReset}
 use Rattle.chain.specs.Links.{kindAt}
-use Rattle.holds.specs.Status.{touch, lift}
-use Rattle.holds.specs.View.{Core, after, statusesAre}
+use Rattle.machine.specs.Status.{touch, lift}
+use Rattle.machine.specs.View.{Core, after, statusesAre}
 use Rattle.entry.specs.Entry.{onward}
 use Rattle.walks.specs.Walks.{releasedIn, pass}
 

@@ -15,8 +15,8 @@ use Rattle.model.specs.declared.State.{State}
 use Rattle.model.specs.declared.State.the-variants.{PowerOnReset, PreSupervision, AwaitingReady, Ready, Updating, Recovering, Locked}
 use Rattle.model.specs.declared.Effect.the-variants.{ReleaseReset}
 use Rattle.chain.specs.Links.{kindAt}
-use Rattle.holds.specs.Status.{statusAt, iso, touch, booted, lift}
-use Rattle.holds.specs.View.{Core, Out, stay, after, inState, statusesAre}
+use Rattle.machine.specs.Status.{statusAt, iso, touch, booted, lift}
+use Rattle.machine.specs.View.{Core, Out, stay, after, inState, statusesAre}
 use Rattle.entry.specs.Entry.{enterReady, enterRecovering, onward}
 
 -- The state of a walk that released i: an Active one released in PreSupervision is waited for.

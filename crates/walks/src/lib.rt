@@ -1,12 +1,12 @@
 // Verdicts on firmware, and boot progress: the rules by which a walk goes on. Each function takes the machine at work by
 // value and hands it back; the effects go into its sink in order.
 ghost use mathlib.Core.Path.{_≡_};
-ghost use Rattle.chain.specs.Tables.{entries};
-ghost use Rattle.holds.specs.Acts.{Does, size};
+ghost use Rattle.chain.specs.Tables.{entries, size};
+ghost use Rattle.machine.specs.Acts.{Does};
 ghost use Rattle.entry.specs.Premise.{Placed};
 ghost use Rattle.walks.specs.Walks.{releasedIn, pass, verifyFailed, progress, awaited, componentReady};
 use chain::Chain;
-use holds::Work;
+use machine::Work;
 use model::ComponentId;
 use model::ComponentKind;
 use model::Effect;
@@ -50,8 +50,8 @@ pub fn verification_passed(chain: Chain, w: Work, id: ComponentId, p: usize) -> 
         awaiting_boot: true,
         released: true,
     };
-    let v = holds::say(w, Effect::ReleaseReset(id));
-    let u = holds::put_status(v, n, p, on);
+    let v = machine::say(w, Effect::ReleaseReset(id));
+    let u = machine::put_status(v, n, p, on);
     entry::walk_on(chain, u, p + 1, next)
 }
 
@@ -62,7 +62,7 @@ pub fn verification_failed(chain: Chain, w: Work, id: ComponentId, p: usize) -> 
 {
     let n = chain.count();
     let rot = w.rot;
-    if holds::is_gated(rot, n, p) {
+    if machine::is_gated(rot, n, p) {
         return w;
     }
     entry::enter_recovering(chain, w, id, p)
@@ -74,13 +74,13 @@ pub fn clear_awaiting_boot(chain: Chain, w: Work, id: ComponentId, p: usize) -> 
 {
     let n = chain.count();
     let rot = w.rot;
-    let s = holds::status_at(rot, n, p);
+    let s = machine::status_at(rot, n, p);
     let up = Status {
         retry: s.retry,
         awaiting_boot: false,
         released: s.released,
     };
-    holds::put_status(w, n, p, up)
+    machine::put_status(w, n, p, up)
 }
 
 // The component that AwaitingReady waits for.
@@ -119,7 +119,7 @@ pub fn component_ready(
             let n = chain.count();
             let cursor = v.rot.cursor;
             if cursor < n {
-                return holds::in_state(v, State::AwaitingReady(OptionId::None));
+                return machine::in_state(v, State::AwaitingReady(OptionId::None));
             }
             entry::enter_ready(chain, v)
         }

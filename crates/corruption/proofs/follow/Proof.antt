@@ -1,5 +1,5 @@
 -- `follow` meets its contract: each arm is told which situation it is.
-use Rattle.holds.proofs.Runs.{ran-none}
+use Rattle.machine.proofs.Runs.{ran-none}
 use borrow.Author.Needs.{needs}
 use Rattle.corruption.proofs.follow.Statement.{statement}
 use Rattle.corruption.proofs.follow.Tie as tie

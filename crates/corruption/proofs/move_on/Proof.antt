@@ -3,11 +3,11 @@ use native.Mathlib.Omega.{arith}
 use mathlib.Core.Path.{refl}
 use Prim.Native.Nat.{_≤_}
 use native.Mathlib.Numerals.{add-one}
-use Rattle.holds.specs.View.{statusesOf}
-use Rattle.holds.specs.Acts.{size}
-use Rattle.holds.proofs.Laws.{length-statuses}
-use Rattle.holds.proofs.Owned.{statuses-full, words-four}
-use Rattle.holds.proofs.Runs.{ran-none}
+use Rattle.machine.specs.View.{statusesOf}
+use Rattle.chain.specs.Tables.{size}
+use Rattle.machine.proofs.Laws.{length-statuses}
+use Rattle.machine.proofs.Owned.{statuses-full, words-four}
+use Rattle.machine.proofs.Runs.{ran-none}
 use Rattle.entry.proofs.Now.{gated-now}
 use Rattle.corruption.proofs.Outcomes.{gated-inside}
 use borrow.Author.Needs.{needs}

@@ -1,6 +1,6 @@
 -- `precede` meets its contract: each arm is told which situation it is.
 use Rattle.model.specs.declared.Effect.the-variants.{DiscardStaged, ReportUpdateAborted}
-use Rattle.holds.proofs.Runs.{ran-none, ran-say}
+use Rattle.machine.proofs.Runs.{ran-none, ran-say}
 use borrow.Author.Needs.{needs}
 use Rattle.corruption.proofs.precede.Statement.{statement}
 use Rattle.corruption.proofs.precede.Tie as tie

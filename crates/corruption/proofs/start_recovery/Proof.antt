@@ -1,6 +1,6 @@
 -- `start_recovery` meets its contract: what comes before, then the recovery.
 use Rattle.chain.specs.Tables.{entries}
-use Rattle.holds.proofs.Runs.{ran-then}
+use Rattle.machine.proofs.Runs.{ran-then}
 use Rattle.entry.specs.Entry.{enterRecovering}
 use Rattle.entry.proofs.Compose.{placed-after}
 use borrow.Author.Needs.{needs}

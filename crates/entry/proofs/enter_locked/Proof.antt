@@ -1,7 +1,7 @@
 -- `enter_locked` meets its contract: the state, then one effect.
 use Rattle.model.specs.declared.State.the-variants.{Locked}
 use Rattle.model.specs.declared.Effect.the-variants.{LatchLockdown}
-use Rattle.holds.proofs.Runs.{ran-none, ran-say, ran-state}
+use Rattle.machine.proofs.Runs.{ran-none, ran-say, ran-state}
 use borrow.Author.Needs.{needs}
 use Rattle.entry.proofs.enter_locked.Statement.{statement}
 use Rattle.entry.proofs.enter_locked.Tie as tie

@@ -1,7 +1,7 @@
 -- `enter_ready` meets its contract: every retry count, then the state.
 use Rattle.model.specs.declared.State.the-variants.{Ready}
-use Rattle.holds.specs.Acts.{clearing}
-use Rattle.holds.proofs.Runs.{ran-state}
+use Rattle.advance.specs.Acts.{clearing}
+use Rattle.machine.proofs.Runs.{ran-state}
 use Rattle.entry.proofs.Compose.{fit-at, does-at}
 use borrow.Author.Needs.{needs}
 use Rattle.entry.proofs.enter_ready.Statement.{statement}

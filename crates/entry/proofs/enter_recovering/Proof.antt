@@ -2,16 +2,16 @@
 use native.Mathlib.Omega.{arith}
 use mathlib.Core.Path.{_≡_, ap, _∙_}
 use Prim.Native.Nat.{ℕ}
-use Rattle.chain.specs.Tables.{entries}
+use Rattle.chain.specs.Tables.{entries, size}
 use Rattle.store.specs.declared.Status.{Status}
-use Rattle.holds.specs.declared.ComponentStatus.{ComponentStatus}
-use Rattle.holds.specs.Status.{statusAt, quiet}
-use Rattle.holds.specs.View.{coreOf, statusesOf}
-use Rattle.holds.specs.Acts.{putting, size}
+use Rattle.machine.specs.declared.ComponentStatus.{ComponentStatus}
+use Rattle.machine.specs.Status.{statusAt, quiet}
+use Rattle.machine.specs.View.{coreOf, statusesOf}
+use Rattle.machine.specs.Acts.{putting}
 use Rattle.entry.proofs.Outcomes.{put-as, recovering-as}
 use mathlib.Core.Bool.{false}
 use Rattle.model.specs.declared.State.the-variants.{Recovering}
-use Rattle.holds.proofs.Runs.{ran-as, ran-say, ran-state, ran-window}
+use Rattle.machine.proofs.Runs.{ran-as, ran-say, ran-state, ran-window}
 use Rattle.entry.proofs.Compose.{fit-at, does-at}
 use borrow.Author.Needs.{needs}
 use Rattle.entry.proofs.enter_recovering.Statement.{statement}

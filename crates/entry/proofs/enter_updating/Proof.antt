@@ -2,7 +2,7 @@
 use mathlib.Core.Bool.{false}
 use Rattle.model.specs.declared.State.the-variants.{Updating}
 use Rattle.model.specs.declared.Effect.the-variants.{AuthenticateUpdate, StageUpdate}
-use Rattle.holds.proofs.Runs.{ran-none, ran-say, ran-state, ran-window}
+use Rattle.machine.proofs.Runs.{ran-none, ran-say, ran-state, ran-window}
 use borrow.Author.Needs.{needs}
 use Rattle.entry.proofs.enter_updating.Statement.{statement}
 use Rattle.entry.proofs.enter_updating.Tie as tie

@@ -1,8 +1,8 @@
 -- `enter_walk` meets its contract: quiesce, advance, then the state.
 use Rattle.model.specs.declared.State.the-variants.{PreSupervision}
 use Rattle.chain.specs.Tables.{entries}
-use Rattle.holds.specs.Acts.{advancing}
-use Rattle.holds.proofs.Runs.{ran-then, ran-state}
+use Rattle.advance.specs.Acts.{advancing}
+use Rattle.machine.proofs.Runs.{ran-then, ran-state}
 use borrow.Author.Needs.{needs}
 use Rattle.entry.proofs.enter_walk.Statement.{statement}
 use Rattle.entry.proofs.enter_walk.Tie as tie

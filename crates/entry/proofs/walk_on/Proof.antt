@@ -1,10 +1,9 @@
 -- `walk_on` meets its contract: after the advance the cursor says whether one is left.
 use native.Mathlib.Omega.{arith}
 use mathlib.Core.Path.{ap}
-use Rattle.chain.specs.Tables.{entries}
-use Rattle.holds.specs.View.{Core, coreOf}
-use Rattle.holds.specs.Acts.{size}
-use Rattle.holds.proofs.Runs.{ran-as, ran-state, ran-then}
+use Rattle.chain.specs.Tables.{entries, size}
+use Rattle.machine.specs.View.{Core, coreOf}
+use Rattle.machine.proofs.Runs.{ran-as, ran-state, ran-then}
 use Rattle.entry.specs.Entry.{enterReady}
 use Rattle.entry.proofs.Outcomes.{onward-some, onward-none}
 use borrow.Author.Needs.{needs}

@@ -3,12 +3,12 @@ use native.Mathlib.Omega.{arith}
 use Prim.Native.Nat.{_+_, _-_, _≤_, _<_}
 use lib.ListN.{getD, drop, length-take}
 use lib.Seq.{getD-take}
-use Rattle.chain.specs.Tables.{entries}
+use Rattle.chain.specs.Tables.{entries, size}
 use Rattle.cascade.specs.Order.{listed}
-use Rattle.holds.specs.View.{coreOf}
-use Rattle.holds.specs.Acts.{gating, gatingAll, size}
+use Rattle.machine.specs.View.{coreOf}
+use Rattle.holds.specs.Acts.{gating, gatingAll}
 use Rattle.holds.proofs.Owned.{places-full}
-use Rattle.holds.proofs.Runs.{Leads, leads-first, leads-next, leads-last}
+use Rattle.machine.proofs.Runs.{Leads, leads-first, leads-next, leads-last}
 use Rattle.holds.proofs.Steps.{gate-next, gate-end}
 use borrow.Author.Needs.{needs}
 use Rattle.holds.proofs.gate_all.Statement.{statement}

@@ -3,11 +3,12 @@ use native.Mathlib.Omega.{arith}
 use mathlib.Core.Path.{sym, ap, _∙_, subst}
 use Prim.Native.Nat.{ℕ}
 use Rattle.model.specs.declared.Effect.the-variants.{AssertReset, ReportIsolated}
-use Rattle.chain.specs.Tables.{entries}
-use Rattle.holds.specs.Status.{statusAt, iso}
-use Rattle.holds.specs.View.{coreOf, statusesOf, Fit}
-use Rattle.holds.specs.Acts.{Does, holding, size}
-use Rattle.holds.proofs.Runs.{ran-none, ran-as, ran-say}
+use Rattle.chain.specs.Tables.{entries, size}
+use Rattle.machine.specs.Status.{statusAt, iso}
+use Rattle.machine.specs.View.{coreOf, statusesOf, Fit}
+use Rattle.machine.specs.Acts.{Does}
+use Rattle.holds.specs.Acts.{holding}
+use Rattle.machine.proofs.Runs.{ran-none, ran-as, ran-say}
 use Rattle.holds.proofs.Steps.{gate-again, gate-new}
 use borrow.Author.Needs.{needs}
 use Rattle.holds.proofs.gate_one.Statement.{statement}

@@ -8,12 +8,12 @@ use lib.Seq.{drop-set-lt}
 use Rattle.isolated.specs.Flags.{flags}
 use Rattle.isolated.proofs.Laws.{length-flags}
 use Rattle.store.specs.declared.Status.{Status}
-use Rattle.holds.specs.declared.ComponentStatus.{ComponentStatus}
-use Rattle.holds.specs.Status.{isolate}
-use Rattle.holds.specs.View.{statusesOf, statusesAre, coreOf}
-use Rattle.holds.proofs.Laws.{change-view}
-use Rattle.holds.proofs.Owned.{statuses-full, words-four}
-use Rattle.holds.proofs.Runs.{ran-rot}
+use Rattle.machine.specs.declared.ComponentStatus.{ComponentStatus}
+use Rattle.holds.specs.Holds.{isolate}
+use Rattle.machine.specs.View.{statusesOf, statusesAre, coreOf}
+use Rattle.machine.proofs.Laws.{change-view}
+use Rattle.machine.proofs.Owned.{statuses-full, words-four}
+use Rattle.machine.proofs.Runs.{ran-rot}
 use borrow.Author.Needs.{needs}
 use Rattle.holds.proofs.hold.Statement.{statement}
 use Rattle.holds.proofs.hold.Tie as tie

@@ -3,7 +3,7 @@ use Rattle.chain.specs.Tables.{entries}
 use Rattle.model.specs.Chain.{position}
 use Rattle.model.specs.declared.Event.the-variants.{RecoveryFailed}
 use Rattle.model.specs.declared.Effect.the-variants.{ReportRecoveryFailed, Emit}
-use Rattle.holds.proofs.Runs.{ran-none, ran-say}
+use Rattle.machine.proofs.Runs.{ran-none, ran-say}
 use Rattle.recovery.specs.Recovery.{startOver}
 use Rattle.entry.proofs.Now.{policy-now}
 use Rattle.corruption.proofs.Outcomes.{hold-one, hold-all}

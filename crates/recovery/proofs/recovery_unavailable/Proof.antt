@@ -1,6 +1,6 @@
 -- `recovery_unavailable` meets its contract: the arms are told whether a component recovers, the test which.
 use borrow.Author.Tests.{eq-eqb, ne-eqb}
-use Rattle.holds.proofs.Runs.{ran-none}
+use Rattle.machine.proofs.Runs.{ran-none}
 use borrow.Author.Needs.{needs}
 use Rattle.recovery.proofs.recovery_unavailable.Statement.{statement}
 use Rattle.recovery.proofs.recovery_unavailable.Tie as tie

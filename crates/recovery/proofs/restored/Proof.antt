@@ -1,12 +1,11 @@
 -- `restored` meets its contract: the retry count goes up, and then the tests are those of the definition.
 use mathlib.Core.Path.{ap, _∙_}
 use borrow.Author.Tests.{eq-eqb, ne-eqb, lt-ltb, le-ltb}
-use Rattle.chain.specs.Tables.{entries}
+use Rattle.chain.specs.Tables.{entries, size}
 use Rattle.model.specs.Chain.{position}
-use Rattle.holds.specs.declared.ComponentStatus.{ComponentStatus}
-use Rattle.holds.specs.Status.{bump}
-use Rattle.holds.specs.Acts.{size}
-use Rattle.holds.proofs.Runs.{ran-none, ran-still}
+use Rattle.machine.specs.declared.ComponentStatus.{ComponentStatus}
+use Rattle.machine.specs.Status.{bump}
+use Rattle.machine.proofs.Runs.{ran-none, ran-still}
 use Rattle.entry.specs.Entry.{enterWalk}
 use Rattle.recovery.specs.Recovery.{exhausted}
 use Rattle.entry.proofs.Now.{status-now}

@@ -1,6 +1,6 @@
 -- `start_over` meets its contract: the retry count, then the walk.
 use Rattle.chain.specs.Tables.{entries}
-use Rattle.holds.proofs.Runs.{ran-still}
+use Rattle.machine.proofs.Runs.{ran-still}
 use Rattle.entry.specs.Entry.{enterWalk}
 use borrow.Author.Needs.{needs}
 use Rattle.recovery.proofs.start_over.Statement.{statement}

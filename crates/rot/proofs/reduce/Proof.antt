@@ -3,14 +3,13 @@ use native.Mathlib.Omega.{arith}
 use mathlib.Core.Path.{_≡_, sym, ap, _∙_}
 use lib.ListN.{length}
 use Prim.Native.Nat.{_<_}
-use Rattle.chain.specs.Tables.{entries}
+use Rattle.chain.specs.Tables.{entries, size}
 use Rattle.chain.proofs.Room.{all-kept}
 use Rattle.model.specs.Chain.{position}
 use Rattle.model.proofs.Lookup.{own-place}
 use Rattle.model.proofs.Walk.{unmap}
-use Rattle.holds.specs.View.{coreOf}
-use Rattle.holds.specs.Acts.{size}
-use Rattle.holds.proofs.Runs.{ran-as, ran-none}
+use Rattle.machine.specs.View.{coreOf}
+use Rattle.machine.proofs.Runs.{ran-as, ran-none}
 use Rattle.rot.proofs.Named.{step-none, step-inside, step-outside}
 use borrow.Author.Needs.{needs}
 use Rattle.rot.proofs.reduce.Statement.{statement}

@@ -6,15 +6,14 @@ use native.Mathlib.Omega.{arith}
 use lib.ListN.{length}
 use Rattle.model.specs.declared.Effect.{Effect}
 use Rattle.model.proofs.Walk.{unmap}
-use Rattle.chain.specs.Tables.{entries}
+use Rattle.chain.specs.Tables.{entries, size}
 use Rattle.chain.proofs.Room.{all-kept, few}
 use Rattle.store.specs.declared.Sink.{Sink}
 use Rattle.store.specs.Sink.{emptySink, held}
 use Rattle.store.proofs.Laws.{empty-held, empty-slots}
-use Rattle.holds.specs.View.{coreOf, says}
-use Rattle.holds.specs.Acts.{size}
-use Rattle.holds.proofs.Laws.{length-statuses}
-use Rattle.holds.proofs.Says.{says-held}
+use Rattle.machine.specs.View.{coreOf, says}
+use Rattle.machine.proofs.Laws.{length-statuses}
+use Rattle.machine.proofs.Says.{says-held}
 use Rattle.rot.specs.Stepped.{bare, outcome}
 use Rattle.rot.proofs.Bound.{step-bound}
 use borrow.Author.Needs.{needs}

@@ -9,7 +9,7 @@ use lib.ListN.{drop, replicate}
 use lib.Seq.{drop-set-lt}
 use Rattle.isolated.specs.declared.Isolated.{Isolated}
 use Rattle.isolated.specs.Flags.{flags}
-use Rattle.holds.proofs.New.{new-fits}
+use Rattle.machine.proofs.New.{new-fits}
 use Rattle.steps.proofs.isolated_at.Statement.{statement}
 use Rattle.steps.proofs.isolated_at.Tie as tie
 

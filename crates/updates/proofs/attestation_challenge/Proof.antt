@@ -1,6 +1,6 @@
 -- `attestation_challenge` meets its contract: one effect.
 use Rattle.model.specs.declared.Effect.the-variants.{SignAttestation}
-use Rattle.holds.proofs.Runs.{ran-none, ran-say}
+use Rattle.machine.proofs.Runs.{ran-none, ran-say}
 use borrow.Author.Needs.{needs}
 use Rattle.updates.proofs.attestation_challenge.Statement.{statement}
 use Rattle.updates.proofs.attestation_challenge.Tie as tie

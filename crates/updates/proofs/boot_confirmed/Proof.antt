@@ -1,7 +1,7 @@
 -- `boot_confirmed` meets its contract: one effect, then the window.
 use mathlib.Core.Bool.{false}
 use Rattle.model.specs.declared.Effect.the-variants.{CommitSvnFloor}
-use Rattle.holds.proofs.Runs.{ran-none, ran-say, ran-window}
+use Rattle.machine.proofs.Runs.{ran-none, ran-say, ran-window}
 use borrow.Author.Needs.{needs}
 use Rattle.updates.proofs.boot_confirmed.Statement.{statement}
 use Rattle.updates.proofs.boot_confirmed.Tie as tie

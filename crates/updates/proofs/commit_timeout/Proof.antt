@@ -1,7 +1,7 @@
 -- `commit_timeout` meets its contract: the window is what the definition tests.
-use Rattle.holds.specs.View.{coreOf}
+use Rattle.machine.specs.View.{coreOf}
 use Rattle.updates.proofs.Outcomes.{commit-open, commit-closed}
-use Rattle.holds.proofs.Runs.{ran-as, ran-none}
+use Rattle.machine.proofs.Runs.{ran-as, ran-none}
 use borrow.Author.Needs.{needs}
 use Rattle.updates.proofs.commit_timeout.Statement.{statement}
 use Rattle.updates.proofs.commit_timeout.Tie as tie

@@ -1,6 +1,6 @@
 -- `update_deferred` meets its contract: one effect.
 use Rattle.model.specs.declared.Effect.the-variants.{ReportUpdateDeferred}
-use Rattle.holds.proofs.Runs.{ran-none, ran-say}
+use Rattle.machine.proofs.Runs.{ran-none, ran-say}
 use borrow.Author.Needs.{needs}
 use Rattle.updates.proofs.update_deferred.Statement.{statement}
 use Rattle.updates.proofs.update_deferred.Tie as tie

@@ -1,6 +1,6 @@
 -- `update_rejected` meets its contract: one effect, then Ready.
 use Rattle.model.specs.declared.Effect.the-variants.{DiscardStaged}
-use Rattle.holds.proofs.Runs.{ran-none, ran-say, ran-then}
+use Rattle.machine.proofs.Runs.{ran-none, ran-say, ran-then}
 use Rattle.entry.specs.Entry.{enterReady}
 use Rattle.entry.proofs.Compose.{sane-after}
 use borrow.Author.Needs.{needs}

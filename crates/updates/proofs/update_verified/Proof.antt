@@ -1,7 +1,7 @@
 -- `update_verified` meets its contract: one effect, the window, then Ready.
 use mathlib.Core.Bool.{true}
 use Rattle.model.specs.declared.Effect.the-variants.{ActivateUpdate}
-use Rattle.holds.proofs.Runs.{ran-none, ran-say, ran-then, ran-window}
+use Rattle.machine.proofs.Runs.{ran-none, ran-say, ran-then, ran-window}
 use Rattle.entry.specs.Entry.{enterReady}
 use Rattle.entry.proofs.Compose.{sane-after}
 use borrow.Author.Needs.{needs}

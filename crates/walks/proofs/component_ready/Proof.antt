@@ -4,9 +4,9 @@ use mathlib.Core.Path.{ap}
 use borrow.Author.Tests.{eq-eqb, ne-eqb, lt-ltb, le-ltb}
 use Rattle.model.specs.declared.OptionId.the-variants.{None}
 use Rattle.model.specs.declared.State.the-variants.{AwaitingReady}
-use Rattle.holds.specs.View.{Core}
-use Rattle.holds.specs.Acts.{size}
-use Rattle.holds.proofs.Runs.{ran-state, ran-still}
+use Rattle.machine.specs.View.{Core}
+use Rattle.chain.specs.Tables.{size}
+use Rattle.machine.proofs.Runs.{ran-state, ran-still}
 use Rattle.entry.specs.Entry.{enterReady}
 use borrow.Author.Needs.{needs}
 use Rattle.walks.proofs.component_ready.Statement.{statement}

@@ -1,8 +1,7 @@
 -- `verification_failed` meets its contract: whether the component is isolated is what the definition tests.
-use Rattle.chain.specs.Tables.{entries}
+use Rattle.chain.specs.Tables.{entries, size}
 use Rattle.model.specs.Chain.{position}
-use Rattle.holds.specs.Acts.{size}
-use Rattle.holds.proofs.Runs.{ran-none}
+use Rattle.machine.proofs.Runs.{ran-none}
 use Rattle.entry.proofs.Now.{gated-now}
 use borrow.Author.Needs.{needs}
 use Rattle.walks.proofs.verification_failed.Statement.{statement}

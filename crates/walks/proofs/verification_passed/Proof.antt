@@ -2,17 +2,17 @@
 use native.Mathlib.Omega.{arith}
 use mathlib.Core.Path.{ap, _∙_}
 use Prim.Native.Nat.{_+_}
-use Rattle.chain.specs.Tables.{entries}
+use Rattle.chain.specs.Tables.{entries, size}
 use Rattle.model.specs.declared.ComponentKind.{ComponentKind}
 use Rattle.model.specs.declared.Effect.the-variants.{ReleaseReset}
 use mathlib.Core.Bool.{true}
 use borrow.Author.Tests.{ne-eqb}
 use Rattle.store.specs.declared.Status.{Status}
-use Rattle.holds.specs.View.{coreOf}
-use Rattle.holds.specs.Acts.{putting, size}
+use Rattle.machine.specs.View.{coreOf}
+use Rattle.machine.specs.Acts.{putting}
 use Rattle.entry.specs.Entry.{onward}
 use Rattle.entry.proofs.Compose.{fit-at, does-at, sane-after}
-use Rattle.holds.proofs.Runs.{ran-as, ran-none, ran-say, ran-then}
+use Rattle.machine.proofs.Runs.{ran-as, ran-none, ran-say, ran-then}
 use Rattle.walks.specs.Walks.{releasedIn}
 use Rattle.walks.proofs.Outcomes.{pass-own}
 use borrow.Author.Needs.{needs}
