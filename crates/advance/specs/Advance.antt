@@ -7,7 +7,7 @@ use Rattle.model.specs.declared.Component.{Component}
 use Rattle.model.specs.declared.Effect.{Effect}
 use Rattle.model.specs.declared.Effect.the-variants.{ReadFirmware, VerifyFirmware, AssertReset}
 use Rattle.model.specs.Vocabulary.{pick}
-use Rattle.model.specs.Chain.{idAt}
+use Rattle.components.specs.Chain.{idAt}
 use Rattle.machine.specs.declared.ComponentStatus.{ComponentStatus}
 use Rattle.machine.specs.Status.{statusAt, iso, quiet}
 

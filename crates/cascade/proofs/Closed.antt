@@ -10,9 +10,9 @@ use borrow.Author.Tests.{eqb-true, eqb-false}
 use Rattle.model.specs.declared.Component.{Component}
 use Rattle.model.specs.declared.OptionId.{OptionId}
 use Rattle.model.specs.declared.OptionId.the-variants.{None, Some}
-use Rattle.model.specs.Chain.{dependsAt, Sound}
+use Rattle.components.specs.Chain.{dependsAt, Sound}
 use Rattle.model.proofs.Pick.{pickP}
-use Rattle.model.proofs.Lookup.{parent-earlier}
+use Rattle.components.proofs.Lookup.{parent-earlier}
 use Rattle.chain.specs.Links.{place, parent}
 use Rattle.cascade.specs.Cascade.{below, childrenIn, childrenOf, spread, cascade}
 use Rattle.cascade.proofs.Below.{Within, in-cons, in-append, within-one, below-has, below-within}

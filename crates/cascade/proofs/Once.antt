@@ -9,7 +9,7 @@ use lib.ListN.{length, getD}
 use borrow.Author.Tests.{eqb-true, eqb-false, eq-eqb}
 use Rattle.model.specs.declared.Component.{Component}
 use Rattle.model.specs.Vocabulary.{pick}
-use Rattle.model.specs.Chain.{Sound}
+use Rattle.components.specs.Chain.{Sound}
 use Rattle.model.proofs.Pick.{pickP}
 use Rattle.chain.specs.Links.{parent}
 use Rattle.cascade.specs.Cascade.{below, childrenIn, childrenOf, spread, cascade}

@@ -6,7 +6,7 @@ use native.Mathlib.Omega.{arith}
 use lib.ListN.{length, getD}
 use lib.Seq.{getD-take}
 use Rattle.model.specs.declared.Component.{Component}
-use Rattle.model.specs.Chain.{Sound}
+use Rattle.components.specs.Chain.{Sound}
 use Rattle.cascade.specs.declared.Order.{Order}
 use Rattle.cascade.specs.Cascade.{cascade}
 use Rattle.cascade.specs.Order.{listed}

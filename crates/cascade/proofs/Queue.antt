@@ -6,7 +6,7 @@ use native.Mathlib.Omega.{arith}
 use lib.ListN.{length, take, drop, getD, length-append, length-drop, take-append-drop, drop-of-length-le}
 use lib.Seq.{take-all, take-suc, drop-cons, take-append-le, drop-append-le}
 use Rattle.model.specs.declared.Component.{Component}
-use Rattle.model.specs.Chain.{Sound}
+use Rattle.components.specs.Chain.{Sound}
 use Rattle.cascade.specs.Cascade.{below, childrenIn, childrenOf, spread, cascade}
 use Rattle.cascade.proofs.Closed.{Late, level-late, root-late}
 

@@ -2,7 +2,7 @@
 ghost use mathlib.Core.List.{[], _∷_, _++_};
 ghost use Prim.Native.Nat.{_≤_, _<_};
 ghost use lib.ListN.{length, take};
-ghost use Rattle.model.specs.Chain.{Sound};
+ghost use Rattle.components.specs.Chain.{Sound};
 ghost use Rattle.chain.specs.Tables.{entries, Charted};
 ghost use Rattle.cascade.specs.Cascade.{below, cascade};
 ghost use Rattle.cascade.specs.Order.{listed};

@@ -4,10 +4,10 @@ use mathlib.Core.Path.{_≡_}
 use native.Mathlib.Omega.{arith}
 use lib.ListN.{length}
 use Rattle.model.specs.declared.ComponentId.{ComponentId}
-use Rattle.model.specs.declared.ComponentList.{ComponentList}
-use Rattle.model.specs.Chain.{entriesOf, position}
-use Rattle.model.proofs.Lookup.{position-bound}
-use Rattle.model.proofs.Walk.{kept-length}
+use Rattle.components.specs.declared.ComponentList.{ComponentList}
+use Rattle.components.specs.Chain.{entriesOf, position}
+use Rattle.components.proofs.Lookup.{position-bound}
+use Rattle.components.proofs.Walk.{kept-length}
 use Rattle.chain.specs.declared.Chain.{Chain}
 use Rattle.chain.specs.Tables.{entries}
 

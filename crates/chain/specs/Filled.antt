@@ -3,7 +3,7 @@ use Prim.Native.Nat.{ℕ, _<_}
 use mathlib.Core.Path.{_≡_}
 use mathlib.Core.List.{List}
 use lib.ListN.{getD}
-use Rattle.model.specs.declared.ComponentList.{ComponentList}
+use Rattle.components.specs.declared.ComponentList.{ComponentList}
 use Rattle.chain.specs.declared.Chain.{Chain}
 use Rattle.chain.specs.Tables.{Charted}
 

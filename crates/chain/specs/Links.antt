@@ -7,7 +7,7 @@ use Rattle.model.specs.declared.ComponentKind.{ComponentKind}
 use Rattle.model.specs.declared.FailurePolicy.{FailurePolicy}
 use Rattle.model.specs.declared.OptionId.{OptionId}
 use Rattle.model.specs.declared.OptionId.the-variants.{None, Some}
-use Rattle.model.specs.Chain.{position, at, dependsAt}
+use Rattle.components.specs.Chain.{position, at, dependsAt}
 
 abbrev pub kindAt : List Component → ℕ → ComponentKind
 kindAt ch p = at ch p .attrs .kind

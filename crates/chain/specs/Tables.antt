@@ -5,7 +5,7 @@ use mathlib.Core.List.{List}
 use lib.ListN.{length, getD}
 use Rattle.model.specs.declared.Component.{Component}
 use Rattle.model.specs.Vocabulary.{idOf}
-use Rattle.model.specs.Chain.{entriesOf, position}
+use Rattle.components.specs.Chain.{entriesOf, position}
 use Rattle.chain.specs.Links.{parent}
 use Rattle.chain.specs.declared.Chain.{Chain}
 

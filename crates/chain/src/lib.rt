@@ -3,14 +3,14 @@ ghost use mathlib.Core.Path.{_≡_};
 ghost use Prim.Native.Nat.{_≤_, _<_};
 ghost use lib.ListN.{length};
 ghost use Rattle.model.specs.Vocabulary.{idOf};
-ghost use Rattle.model.specs.Chain.{entriesOf, position, at, idAt};
+ghost use Rattle.components.specs.Chain.{entriesOf, position, at, idAt};
 ghost use Rattle.chain.specs.Links.{place, parent, kindAt, policyAt};
 ghost use Rattle.chain.specs.Tables.{entries, Charted};
 ghost use Rattle.chain.specs.Filled.{Filled, ChartOf};
+use components::ComponentList;
 use model::Component;
 use model::ComponentId;
 use model::ComponentKind;
-use model::ComponentList;
 use model::FailurePolicy;
 use model::OptionId;
 

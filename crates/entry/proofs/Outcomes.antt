@@ -6,7 +6,7 @@ use Prim.Native.Nat.{ℕ, _<_}
 use native.Mathlib.Omega.{arith}
 use lib.ListN.{length, set}
 use borrow.Author.Tests.{lt-ltb, le-ltb}
-use Rattle.model.specs.Chain.{position}
+use Rattle.components.specs.Chain.{position}
 use Rattle.model.specs.declared.Component.{Component}
 use Rattle.model.specs.declared.ComponentId.{ComponentId}
 use Rattle.model.specs.declared.State.{State}

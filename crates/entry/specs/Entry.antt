@@ -5,7 +5,7 @@ use Prim.Native.Nat.{ℕ}
 use lib.Dec.{ltb}
 use lib.ListN.{length}
 use Rattle.model.specs.Vocabulary.{pick}
-use Rattle.model.specs.Chain.{position}
+use Rattle.components.specs.Chain.{position}
 use Rattle.model.specs.declared.ComponentId.{ComponentId}
 use Rattle.model.specs.declared.Component.{Component}
 use Rattle.model.specs.declared.State.{State}

@@ -2,7 +2,7 @@
 use Prim.Native.Nat.{ℕ, _<_}
 use mathlib.Core.Path.{_≡_}
 use Rattle.model.specs.declared.ComponentId.{ComponentId}
-use Rattle.model.specs.Chain.{position, Sound}
+use Rattle.components.specs.Chain.{position, Sound}
 use Rattle.chain.specs.declared.Chain.{Chain}
 use Rattle.chain.specs.Tables.{entries, Charted, size}
 use Rattle.machine.specs.declared.Work.{Work}

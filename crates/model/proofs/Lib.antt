@@ -1,6 +1,3 @@
 -- Modules of proofs that belong to no one function.
 pub mod Pick
-pub mod Walk
-pub mod Lookup
-pub mod Accepted
-pub mod Kept
+pub mod Arrays

@@ -3,7 +3,7 @@ use mathlib.Core.List.{List, [], _∷_}
 use Prim.Native.Nat.{ℕ}
 use lib.Dec.{ltb}
 use Rattle.model.specs.Vocabulary.{pick}
-use Rattle.model.specs.Chain.{position, sameId}
+use Rattle.components.specs.Chain.{position, sameId}
 use Rattle.model.specs.declared.ComponentId.{ComponentId}
 use Rattle.model.specs.declared.Component.{Component}
 use Rattle.model.specs.declared.Event.the-variants.{RecoveryFailed}

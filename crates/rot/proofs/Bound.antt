@@ -11,7 +11,7 @@ use lib.Dec.{eqb, ltb}
 use lib.ListN.{length, length-append, length-map, length-set}
 use borrow.Author.Tests.{ltb-true}
 use Rattle.model.specs.Vocabulary.{named}
-use Rattle.model.specs.Chain.{position, sameId}
+use Rattle.components.specs.Chain.{position, sameId}
 use Rattle.model.specs.declared.ComponentId.{ComponentId}
 use Rattle.model.specs.declared.Component.{Component}
 use Rattle.model.specs.declared.OptionId.{OptionId}

@@ -8,7 +8,7 @@ use lib.ListN.{length}
 use lib.Seq.{getD-set-same, getD-set-other}
 use lib.Dec.{eqb}
 use borrow.Author.Tests.{eqb-true, eqb-false}
-use Rattle.model.specs.Chain.{position, idAt, Sound}
+use Rattle.components.specs.Chain.{position, idAt, Sound}
 use Rattle.model.proofs.Pick.{pickP}
 use Rattle.model.specs.declared.Component.{Component}
 use Rattle.model.specs.declared.ComponentId.{ComponentId}

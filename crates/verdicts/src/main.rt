@@ -2,13 +2,13 @@
 //
 // A line is the length and then five numbers for each entry: id, kind (0 Active, 1 Passive), policy (0 Required,
 // 1 Isolable, 2 Cascading), region, dependency (256 for none). Any byte that is no digit ends a number.
+use components::ComponentList;
 use libc::STDIN_FILENO;
 use libc::STDOUT_FILENO;
 use model::Component;
 use model::ComponentAttrs;
 use model::ComponentId;
 use model::ComponentKind;
-use model::ComponentList;
 use model::FailurePolicy;
 use model::RegionId;
 

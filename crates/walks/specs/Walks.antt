@@ -4,7 +4,7 @@ use Prim.Native.Nat.{suc}
 use lib.Dec.{eqb, ltb}
 use lib.ListN.{length}
 use Rattle.model.specs.Vocabulary.{pick}
-use Rattle.model.specs.Chain.{position, sameId}
+use Rattle.components.specs.Chain.{position, sameId}
 use Rattle.model.specs.declared.ComponentId.{ComponentId}
 use Rattle.model.specs.declared.Component.{Component}
 use Rattle.model.specs.declared.ComponentKind.{ComponentKind}

@@ -7,8 +7,9 @@ use native.Mathlib.Numerals.{add-one}
 use lib.ListN.{length, take, getD, length-take}
 use lib.Seq.{take-all}
 use borrow.Author.Needs.{needs}
-use Rattle.model.specs.Chain.{Sound}
-use Rattle.model.proofs.Walk.{unmap, kept-length}
+use Rattle.components.specs.Chain.{Sound}
+use Rattle.components.proofs.Walk.{kept-length}
+use Rattle.model.proofs.Arrays.{unmap}
 use Rattle.chain.specs.declared.Chain.{Chain}
 use Rattle.chain.specs.Tables.{entries, Charted}
 use Rattle.cascade.specs.declared.Order.{Order}

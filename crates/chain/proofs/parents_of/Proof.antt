@@ -5,8 +5,9 @@ use mathlib.Core.Path.{_≡_, sym, _∙_, ap}
 use lib.ListN.{length, length-set, length-replicate}
 use borrow.Author.Needs.{needs}
 use Rattle.model.specs.declared.Component.{Component}
-use Rattle.model.specs.Chain.{entriesOf}
-use Rattle.model.proofs.Walk.{unmap, kept-at}
+use Rattle.components.specs.Chain.{entriesOf}
+use Rattle.components.proofs.Walk.{kept-at}
+use Rattle.model.proofs.Arrays.{unmap}
 use Rattle.chain.specs.Links.{place, parent}
 use Rattle.chain.specs.Filled.{Filled}
 use Rattle.chain.proofs.Fill.{fill-next}

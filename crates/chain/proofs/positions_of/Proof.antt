@@ -5,7 +5,7 @@ use mathlib.Core.Path.{_≡_}
 use lib.ListN.{length, length-set, length-replicate}
 use borrow.Author.Needs.{needs}
 use Rattle.model.specs.Vocabulary.{idOf}
-use Rattle.model.specs.Chain.{entriesOf, position}
+use Rattle.components.specs.Chain.{entriesOf, position}
 use Rattle.chain.specs.Filled.{Filled}
 use Rattle.chain.proofs.Fill.{fill-next}
 use Rattle.chain.proofs.positions_of.Statement.{statement}

@@ -1,6 +1,6 @@
 -- `handle_corruption` meets its contract: the test and the arms are those of the definition.
 use Rattle.chain.specs.Tables.{entries, size}
-use Rattle.model.specs.Chain.{position}
+use Rattle.components.specs.Chain.{position}
 use Rattle.corruption.specs.Cases.{follows}
 use Rattle.entry.proofs.Now.{gated-now, policy-now}
 use Rattle.corruption.proofs.Outcomes.{hold-one, hold-all}

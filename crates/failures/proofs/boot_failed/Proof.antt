@@ -4,7 +4,7 @@ use Rattle.entry.proofs.Compose.{placed-after}
 use Rattle.entry.proofs.Now.{awaits-now}
 use Rattle.failures.proofs.Outcomes.{kind-timed, kind-retriable, kind-fatal, reported-as}
 use Rattle.chain.specs.Tables.{entries, size}
-use Rattle.model.specs.Chain.{position}
+use Rattle.components.specs.Chain.{position}
 use Rattle.model.specs.declared.Effect.the-variants.{ReportBootFailed}
 use borrow.Author.Tests.{not-true, not-false}
 use Rattle.machine.proofs.Runs.{ran-as, ran-none, ran-say, ran-then}

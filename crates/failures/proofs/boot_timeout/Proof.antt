@@ -1,6 +1,6 @@
 -- `boot_timeout` meets its contract: whether the component awaits its boot is what the definition tests.
 use Rattle.chain.specs.Tables.{entries, size}
-use Rattle.model.specs.Chain.{position}
+use Rattle.components.specs.Chain.{position}
 use Rattle.machine.proofs.Runs.{ran-none}
 use Rattle.entry.proofs.Now.{awaits-now}
 use borrow.Author.Needs.{needs}

@@ -1,6 +1,6 @@
 -- `exhaust_recovery` meets its contract: each arm is told which policy it is.
 use Rattle.chain.specs.Tables.{entries}
-use Rattle.model.specs.Chain.{position}
+use Rattle.components.specs.Chain.{position}
 use Rattle.model.specs.declared.Event.the-variants.{RecoveryFailed}
 use Rattle.model.specs.declared.Effect.the-variants.{ReportRecoveryFailed, Emit}
 use Rattle.machine.proofs.Runs.{ran-none, ran-say}

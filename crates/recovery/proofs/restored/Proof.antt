@@ -2,7 +2,7 @@
 use mathlib.Core.Path.{ap, _∙_}
 use borrow.Author.Tests.{eq-eqb, ne-eqb, lt-ltb, le-ltb}
 use Rattle.chain.specs.Tables.{entries, size}
-use Rattle.model.specs.Chain.{position}
+use Rattle.components.specs.Chain.{position}
 use Rattle.machine.specs.declared.ComponentStatus.{ComponentStatus}
 use Rattle.machine.specs.Status.{bump}
 use Rattle.machine.proofs.Runs.{ran-none, ran-still}

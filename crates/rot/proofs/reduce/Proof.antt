@@ -5,9 +5,9 @@ use lib.ListN.{length}
 use Prim.Native.Nat.{_<_}
 use Rattle.chain.specs.Tables.{entries, size}
 use Rattle.chain.proofs.Room.{all-kept}
-use Rattle.model.specs.Chain.{position}
-use Rattle.model.proofs.Lookup.{own-place}
-use Rattle.model.proofs.Walk.{unmap}
+use Rattle.components.specs.Chain.{position}
+use Rattle.components.proofs.Lookup.{own-place}
+use Rattle.model.proofs.Arrays.{unmap}
 use Rattle.machine.specs.View.{coreOf}
 use Rattle.machine.proofs.Runs.{ran-as, ran-none}
 use Rattle.rot.proofs.Named.{step-none, step-inside, step-outside}

@@ -5,7 +5,7 @@ use mathlib.Core.List.{List, _++_}
 use native.Mathlib.Omega.{arith}
 use lib.ListN.{length}
 use Rattle.model.specs.declared.Effect.{Effect}
-use Rattle.model.proofs.Walk.{unmap}
+use Rattle.model.proofs.Arrays.{unmap}
 use Rattle.chain.specs.Tables.{entries, size}
 use Rattle.chain.proofs.Room.{all-kept, few}
 use Rattle.store.specs.declared.Sink.{Sink}

@@ -3,11 +3,11 @@ use mathlib.Core.Path.{_≡_, refl, sym, _∙_, subst}
 use mathlib.Core.Bool.{false}
 use Prim.Native.Nat.{ℕ}
 use native.Mathlib.Omega.{arith}
-use Rattle.model.specs.declared.ComponentList.{ComponentList}
-use Rattle.model.specs.declared.Verdict.{Verdict}
-use Rattle.model.specs.declared.Verdict.the-variants.{Accepted, Refused}
-use Rattle.model.specs.Chain.{entriesOf, refuses, verdictOf, Sound}
-use Rattle.model.proofs.Accepted.{accepted}
+use Rattle.components.specs.declared.ComponentList.{ComponentList}
+use Rattle.components.specs.declared.Verdict.{Verdict}
+use Rattle.components.specs.declared.Verdict.the-variants.{Accepted, Refused}
+use Rattle.components.specs.Chain.{entriesOf, refuses, verdictOf, Sound}
+use Rattle.components.proofs.Accepted.{accepted}
 use Rattle.chain.specs.declared.Chain.{Chain}
 use Rattle.chain.specs.Tables.{entries}
 use Rattle.chain.specs.Filled.{ChartOf}

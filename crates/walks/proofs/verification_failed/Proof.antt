@@ -1,6 +1,6 @@
 -- `verification_failed` meets its contract: whether the component is isolated is what the definition tests.
 use Rattle.chain.specs.Tables.{entries, size}
-use Rattle.model.specs.Chain.{position}
+use Rattle.components.specs.Chain.{position}
 use Rattle.machine.proofs.Runs.{ran-none}
 use Rattle.entry.proofs.Now.{gated-now}
 use borrow.Author.Needs.{needs}

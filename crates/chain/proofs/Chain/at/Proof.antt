@@ -3,7 +3,8 @@ use native.Mathlib.Omega.{arith}
 use mathlib.Core.Path.{_≡_, sym}
 use lib.ListN.{length}
 use borrow.Author.Needs.{needs}
-use Rattle.model.proofs.Walk.{unmap, kept-at}
+use Rattle.components.proofs.Walk.{kept-at}
+use Rattle.model.proofs.Arrays.{unmap}
 use Rattle.chain.proofs.Room.{few}
 use Rattle.chain.proofs.Chain.at.Statement.{statement}
 use Rattle.chain.proofs.Chain.at.Tie as tie
