@@ -1,0 +1,3 @@
+-- What demand 3 says.
+pub mod History
+pub mod Demand

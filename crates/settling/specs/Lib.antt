@@ -1,0 +1,4 @@
+-- The definitions that the contracts cite.
+pub mod Settle
+pub mod View
+pub mod Parts

@@ -1,0 +1,61 @@
+-- `begin` meets its contract: the event stands alone in the queue and is settled, or the call is refused.
+use native.Mathlib.Omega.{arith}
+use mathlib.Core.Path.{sym, _∙_, subst}
+use mathlib.Core.List.{[], _∷_}
+use Rattle.settling.specs.Settle.{queueIs}
+use Rattle.settling.specs.View.{view}
+use Rattle.settling.proofs.Views.{pends, view-waiting}
+use Rattle.sm.specs.Calls.{Expected}
+use Rattle.sm.specs.Gives.{CallGives}
+use Rattle.sm.proofs.Stepping.{begun, begun-idle, begin-done, begin-refused, settles, refuses}
+use borrow.Author.Needs.{needs}
+use Rattle.sm.proofs.begin.Statement.{statement}
+use Rattle.sm.proofs.begin.Tie as tie
+
+is-done-requires : tie.Need-is-done-requires
+is-done-requires c κs = search needs
+
+push-back-requires : tie.Need-push-back-requires
+push-back-requires c κs = search needs
+
+settle-requires : tie.Need-settle-requires
+settle-requires c κs =
+    let s = c .before .before .before .before in
+    let m = s .args .machine in
+    let d = sym (c .before .before .before .is-done .ensures) ∙ c .before .before .if1 .taken in
+    (begun m (s .pre) (s .args .event) d (c .push-back .result) (c .push-back .ensures) .whole, begun-idle m (s .pre) (s .args .event) d)
+
+answered-requires : tie.Need-answered-requires
+answered-requires c κs = search needs
+
+returns : tie.Need-returns
+returns c =
+    let s = c .before .before .before .before .before .before in
+    let m = s .args .machine in
+    let e = s .args .event in
+    let d = sym (c .before .before .before .before .before .is-done .ensures) ∙ c .before .before .before .before .if1 .taken in
+    let p = c .before .before .push-back in
+    subst (λ (x : Expected). CallGives m x (c .answered .result)) (sym (begin-done m (s .pre) e d))
+    (settles m (pends (p .result) (m .failed) m) (c .before .settle .result) (queueIs (e ∷ []) (view m)) (c .answered .result) (begun m (s .pre) e d (p .result) (p .ensures)) (view-waiting m ∙ begun-idle m (s .pre) e d) (omega arith) (c .before .settle .ensures) (c .answered .ensures))
+
+refused-requires : tie.Need-refused-requires
+refused-requires c κs = search needs
+
+returns-2 : tie.Need-returns-2
+returns-2 c =
+    let s = c .before .before .before in
+    let m = s .args .machine in
+    let d = sym (c .before .before .is-done .ensures) ∙ c .before .if1 .left in
+    subst (λ (x : Expected). CallGives m x (c .refused .result)) (sym (begin-refused m (s .pre) (s .args .event) d)) (refuses m 10 (c .refused .result) (s .pre) (c .refused .ensures))
+
+pub begin-spec : {M : Type 1} → statement M
+begin-spec =
+    tie.close
+    (tie.spec
+    is-done-requires
+    push-back-requires
+    settle-requires
+    answered-requires
+    returns
+    refused-requires
+    returns-2)

@@ -1,0 +1,61 @@
+-- `reply` meets its contract: the waiting effect is answered and the machine settled, or the call is refused.
+use mathlib.Core.Path.{sym, ap, _∙_, subst}
+use Rattle.settling.specs.declared.Waiting.the-variants.{Nothing, Handed}
+use Rattle.settling.specs.Settle.{Model, waitingIs, replied}
+use Rattle.settling.specs.View.{view}
+use Rattle.settling.proofs.Views.{view-waiting, view-few}
+use Rattle.sm.specs.Calls.{Expected}
+use Rattle.sm.specs.Gives.{CallGives}
+use Rattle.sm.proofs.Stepping.{replied-idle, replied-few, reply-waiting, settles, refuses}
+use borrow.Author.Needs.{needs}
+use Rattle.sm.proofs.reply.Statement.{statement}
+use Rattle.sm.proofs.reply.Tie as tie
+
+enum-told : tie.Need-enum-told
+enum-told c = search needs
+
+refused-requires : tie.Need-refused-requires
+refused-requires c κs = search needs
+
+enum-told-2 : tie.Need-enum-told-2
+enum-told-2 c = search needs
+
+replied-requires : tie.Need-replied-requires
+replied-requires c κs = search needs
+
+settle-requires : tie.Need-settle-requires
+settle-requires c κs =
+    let s = c .before .before .before in
+    let m = s .args .machine in
+    (c .replied .ensures .whole, sym (view-waiting (c .replied .result)) ∙ ap (λ (x : Model). x .waiting) (c .replied .ensures .machine) ∙ replied-idle (view m) (s .args .reply))
+
+answered-requires : tie.Need-answered-requires
+answered-requires c κs = search needs
+
+returns : tie.Need-returns
+returns c =
+    let s = c .before .before .before in
+    let m = s .args .machine in
+    subst (λ (x : Expected). CallGives m x (c .refused .result)) (sym (reply-waiting m (s .args .reply) Nothing (c .before .enum-told .given .1))) (refuses m 7 (c .refused .result) (s .pre) (c .refused .ensures))
+
+returns-2 : tie.Need-returns-2
+returns-2 c =
+    let s = c .before .before .before .before .before in
+    let m = s .args .machine in
+    let a = s .args .reply in
+    let v = c .before .before .replied in
+    subst (λ (x : Expected). CallGives m x (c .answered .result)) (sym (reply-waiting m a (Handed (c .before .before .before .enum-told2 .given .0 .0)) (c .before .before .before .enum-told2 .given .1)))
+    (settles m (v .result) (c .before .settle .result) (replied a (waitingIs Nothing (view m))) (c .answered .result) (v .ensures) (replied-idle (view m) a) (replied-few (view m) a (view-few m (s .pre .whole))) (c .before .settle .ensures) (c .answered .ensures))
+
+pub reply-spec : {M : Type 1} → statement M
+reply-spec =
+    tie.close
+    (tie.spec
+    enum-told
+    refused-requires
+    enum-told-2
+    replied-requires
+    settle-requires
+    answered-requires
+    returns
+    returns-2)
