@@ -10,7 +10,8 @@ use lib.ListN.{length, getD, take, drop, set, replicate, length-take, length-dro
 use lib.Seq.{getD-take, getD-drop, getD-set-same, getD-set-other, set-getD}
 use borrow.Author.Tests.{lt-ltb, le-ltb}
 use Rattle.isolated.specs.declared.Isolated.{Isolated}
-use Rattle.isolated.specs.Flags.{flags, isolatedAhead, pick, nextFree, trues}
+use Rattle.isolated.specs.Flags.{flags, isolatedAhead, nextFree, trues}
+use Rattle.model.specs.Vocabulary.{pick}
 use Rattle.isolated.proofs.Words.{length-words, at-position}
 
 -- false is not true

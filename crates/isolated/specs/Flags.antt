@@ -4,6 +4,7 @@ use mathlib.Core.List.{List, [], _∷_, _++_}
 use Prim.Native.Nat.{ℕ, zero, suc, _+_, _/_, _%_}
 use lib.Dec.{eqb, ltb}
 use lib.ListN.{take, drop}
+use Rattle.model.specs.Vocabulary.{pick}
 use Rattle.isolated.specs.declared.Isolated.{Isolated}
 
 -- the k lowest binary digits of w, lowest first: true where the digit is 1
@@ -25,11 +26,6 @@ unfoldable pub isolatedAhead : List Bool → ℕ
 isolatedAhead [] = 0
 isolatedAhead (true ∷ l) = suc (isolatedAhead l)
 isolatedAhead (false ∷ l) = 0
-
--- the first number where the test holds, and the second where it does not
-abbrev pub pick : Bool → ℕ → ℕ → ℕ
-pick true a b = a
-pick false a b = b
 
 -- the first position from `from` on and below n that is not isolated, or n where there is none: past the list's end nothing is isolated
 unfoldable pub nextFree : List Bool → ℕ → ℕ → ℕ
