@@ -3,12 +3,12 @@
 ghost use mathlib.Core.Path.{_≡_};
 ghost use Prim.Native.Nat.{_≤_};
 ghost use Rattle.settling.specs.View.{Valid};
+use components::ComponentList;
 use libc::STDOUT_FILENO;
 use model::BootFailureKind;
 use model::Component;
 use model::ComponentAttrs;
 use model::ComponentId;
-use components::ComponentList;
 use model::Effect;
 use model::Event;
 use model::OptionId;

@@ -38,7 +38,7 @@ use Rattle.history.specs.History.{Call, Begin, Reply·to, expected, mach
 use Rattle.history.specs.Demand.{Follows, made, called, History, NotEmpty}
 use Rattle.history.proofs.Statuses.{not-true}
 use Rattle.history.proofs.Few.{Reached, step-reached, step-few, start-reached}
-use Rattle.history.proofs.Stored.{storeOf, Fitting, Sizes, store-view, store-chain, store-entries, store-limit, store-valid, store-sizes}
+use Rattle.history.proofs.Stored.{storeOf, Fitting, Sizes, store-view, store-chain, store-entries, store-maxRetry, store-valid, store-sizes}
 
 -- ---- Every machine on the way fits
 
@@ -189,7 +189,7 @@ module _ (l : ComponentList) (max : ℕ) (v : verdictOf (l .len) (entriesOf l) �
   chained ks = store-entries l sound max (machineAfter (entriesOf l) max ks) (fits (machineAfter (entriesOf l) max ks) (stands (entriesOf l) max ks))
 
   limited : (ks : List Call) → at ks .«max_retry» ≡ max
-  limited ks = store-limit l sound max (machineAfter (entriesOf l) max ks) (fits (machineAfter (entriesOf l) max ks) (stands (entriesOf l) max ks))
+  limited ks = store-maxRetry l sound max (machineAfter (entriesOf l) max ks) (fits (machineAfter (entriesOf l) max ks) (stands (entriesOf l) max ks))
 
   valid : (ks : List Call) → Valid (at ks)
   valid ks =
@@ -224,7 +224,7 @@ module _ (l : ComponentList) (max : ℕ) (v : verdictOf (l .len) (entriesOf l) �
         number = refl;
         effect = refl;
         chain = same-chain (k ∷ ks) ks;
-        limit = limited (k ∷ ks) ∙ sym (limited ks);
+        maxRetry = limited (k ∷ ks) ∙ sym (limited ks);
         kept = λ u. ap (storeOf l max) (next ks k ∙ a .kept u);
         few = a .few;
         valid = valid (k ∷ ks);
@@ -234,7 +234,7 @@ module _ (l : ComponentList) (max : ℕ) (v : verdictOf (l .len) (entriesOf l) �
   unfolding machineAfter
   begins = record {
     answer = refl;
-    accepted = λ u. record { machine = read []; chain = chained []; limit = limited []; valid = valid [] };
+    accepted = λ u. record { machine = read []; chain = chained []; maxRetry = limited []; valid = valid [] };
     refused = λ u. not-true (sym (ap refuses v) ∙ u);
   }
 

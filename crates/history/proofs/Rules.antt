@@ -37,11 +37,9 @@ use Rattle.machine.specs.View.{Core, Out, out, stay, after, inState, statusesAr
 use Rattle.entry.specs.Entry.{enterLocked, enterReady, enterUpdating, enterRecovering, enterWalk, onward}
 use Rattle.walks.specs.Walks.{releasedIn, pass, verifyFailed, noWait, progress, componentReady}
 use Rattle.corruption.specs.Corruption.{byPolicy, gateThen, recover, corrupt, moveOn, abortion}
-use Rattle.failures.specs.Failures.{timeout, bootFailed}
-use Rattle.recovery.specs.Recovery.{restored, unavailable}
+use Rattle.failures.specs.Failures.{timeout, bootFailed, byKind}
+use Rattle.recovery.specs.Recovery.{restored, unavailable, retryAt, startOver, exhausted}
 use Rattle.updates.specs.Updates.{power}
-use Rattle.failures.specs.Failures.{byKind}
-use Rattle.recovery.specs.Recovery.{retryAt, startOver, exhausted}
 use Rattle.rot.specs.Step.{byState, rule, inChain, stepOf}
 use Rattle.rot.proofs.Choice.{byKindP}
 use Rattle.history.proofs.Statuses.{both, isoAt, AllOff}

@@ -15,8 +15,7 @@ use Rattle.model.proofs.Pick.{pickP}
 use Rattle.cascade.proofs.Below.{by-test, in-cons}
 use Rattle.machine.specs.declared.ComponentStatus.{ComponentStatus}
 use Rattle.machine.specs.Status.{fresh, statusAt, iso, touch}
-use Rattle.holds.specs.Holds.{isolate}
-use Rattle.holds.specs.Holds.{gate, gates}
+use Rattle.holds.specs.Holds.{isolate, gate, gates}
 use Rattle.advance.specs.Advance.{isolatedAhead, seek, quietSays, quiesced}
 use Rattle.rot.proofs.Weight.{gate-length, weigh, weight}
 

@@ -226,9 +226,9 @@ module _ (l : ComponentList) (s : Sound (l .len) (entriesOf l)) (max : ℕ) (m :
   unfolding storeOf chartOf
   store-entries = refl
 
-  pub store-limit : storeOf l max m .«max_retry» ≡ max
+  pub store-maxRetry : storeOf l max m .«max_retry» ≡ max
   unfolding storeOf
-  store-limit = refl
+  store-maxRetry = refl
 
   store-whole : Whole (storeOf l max m)
   unfolding storeOf chartOf sinkOf

@@ -45,7 +45,7 @@ module _ (n : ℕ) (ch : List Component) (s : Sound n ch) (max : ℕ) where
 pub record Agrees (l : ComponentList) (max : ℕ) (ks : List Call) (rs : List Answered) (m : Machine) : Type 0 where
   pub verdict : verdictOf (l .len) (entriesOf l) ≡ Accepted
   pub chain : chainOf m ≡ entriesOf l
-  pub limit : m .«max_retry» ≡ max
+  pub maxRetry : m .«max_retry» ≡ max
   pub machine : view m ≡ machineAfter (entriesOf l) max ks
   pub answers : rs ≡ answersTo (entriesOf l) max ks
   pub valid : Valid m
@@ -54,13 +54,13 @@ pub agrees : (l : ComponentList) (max : ℕ) {ks : List Call} {rs : List Answere
 unfolding machineAfter answersTo
 agrees l max (made r v g) =
     let f : Fresh l max (r .machine) = g .accepted v in
-    record { verdict = v; chain = f .chain; limit = f .limit; machine = f .machine; answers = refl; valid = f .valid }
+    record { verdict = v; chain = f .chain; maxRetry = f .maxRetry; machine = f .machine; answers = refl; valid = f .valid }
 agrees l max (called {ks = ks} {rs = rs} {m = m} k r f valid g) =
     let a : Agrees l max ks rs m = agrees l max f in
     let ch : List Component = entriesOf l in
     let x : expected (chainOf m) (m .«max_retry») (view m) k ≡ expectedAfter ch max ks k =
     ap (λ (c : List Component). expected c (m .«max_retry») (view m) k) (a .chain)
-    ∙ ap (λ (b : ℕ). expected ch b (view m) k) (a .limit)
+    ∙ ap (λ (b : ℕ). expected ch b (view m) k) (a .maxRetry)
     ∙ ap (λ (w : Model). expected ch max w k) (a .machine) in
     let number : r .number ≡ expectedAfter ch max ks k .number = g .number ∙ ap (λ (y : Expected). y .number) x in
     let effect : r .effect ≡ expectedAfter ch max ks k .effect = g .effect ∙ ap (λ (y : Expected). y .effect) x in
@@ -68,7 +68,7 @@ agrees l max (called {ks = ks} {rs = rs} {m = m} k r f valid g) =
     record {
       verdict = a .verdict;
       chain = ap (λ (c : Chain). entries c) (g .chain) ∙ a .chain;
-      limit = g .limit ∙ a .limit;
+      maxRetry = g .maxRetry ∙ a .maxRetry;
       machine = g .machine ∙ ap (λ (y : Expected). y .machine) x;
       answers = λ i. record { number = number i; effect = effect i } ∷ rest i;
       valid = g .valid;

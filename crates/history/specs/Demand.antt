@@ -30,7 +30,8 @@ abbrev pub answered : Called → Answered
 answered r = record { number = r .number; effect = r .effect }
 
 -- A history: from the machine that new gives for an accepted list, each call takes the machine that the one before
--- returned, after a refusal too. Of the code it cites what the contracts of new, begin and reply ensure, and nothing else.
+-- returned, after a refusal too. Of the code it cites what the contracts of new, begin and reply ensure, and nothing else;
+-- `Valid` is the calls' one premise, and each call gives it to the next.
 pub data Follows (l : ComponentList) (max : ℕ) : List Call → List Answered → Machine → Type 0 where
   made : (r : Made) → verdictOf (l .len) (entriesOf l) ≡ Accepted → NewGives l max r → Follows l max [] [] (r .machine)
   called : {ks : List Call} {rs : List Answered} {m : Machine} (k : Call) (r : Called) → Follows l max ks rs m → Valid m
@@ -80,7 +81,7 @@ Small n log = (k : ℕ) → effectsOf (eqb k) log ≤ 2 * n + 1
 abbrev pub Total : ℕ → List Item → Type 0
 Total n log = (k : ℕ) → k ≤ settled log → effectsOf (λ e. leb e k) log ≤ 4 * k + 2 * n
 
--- All five, of a chain, max_retry, the calls, and what the code answered to them.
+-- The five parts together, of a chain, max_retry, the calls, and what the code answered to them.
 pub record Demand·3 (ch : List Component) (max : ℕ) (ks : List Call) (rs : List Answered) : Type 0 where
   pub answers : Answers ch max ks rs
   pub release : Release (logOf ch max ks rs)
@@ -94,7 +95,7 @@ pub record Demand·3 (ch : List Component) (max : ℕ) (ks : List Call) (rs : Li
 abbrev pub Demanded : Type 0
 Demanded = (l : ComponentList) (max : ℕ) (ks : List Call) (rs : List Answered) (m : Machine) → Follows l max ks rs m → Demand·3 (entriesOf l) max ks rs
 
--- There is such a history of every list of calls.
+-- There is such a history for every accepted list, every max_retry and every list of calls.
 pub record History (l : ComponentList) (max : ℕ) (ks : List Call) : Type 0 where
   pub answers : List Answered
   pub machine : Machine

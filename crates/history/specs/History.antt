@@ -66,7 +66,7 @@ abbrev pub handedBy : Answered → List Item
 handedBy r = pick (eqb (r .number) 0) (given (r .effect)) []
 
 -- What happened in a list of calls that were answered so: the events that they settled by the definitions, and the effects
--- that their answers handed out. A call settles before it hands out.
+-- that their answers handed out. A call settles before it hands out. There are as many answers as calls.
 unfoldable pub logOf : List Component → ℕ → List Call → List Answered → List Item
 logOf ch max [] rs = []
 logOf ch max (k ∷ ks) [] = []

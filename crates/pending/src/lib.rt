@@ -2,7 +2,6 @@
 ghost use mathlib.Core.Path.{_≡_};
 ghost use mathlib.Core.List.{_++_};
 ghost use Prim.Native.Nat.{_≤_};
-ghost use lib.Dec.{eqb};
 ghost use lib.ListN.{length, take, drop};
 ghost use Rattle.pending.specs.Queue.{events, noEvents, firstOf, rest, atBack, latched, emits};
 use model::Effect;
@@ -25,7 +24,7 @@ pub struct Pending {
     pub len: usize,
 }
 
-// The event that an effect only queues, if it is Emit.
+// The event of an Emit, which is queued and never handed out; any other effect has none.
 pub fn emitted_event(effect: Effect) -> OptionEvent
     ensures { λ r. ⌜ r ≡ emits effect ⌝ }
 {

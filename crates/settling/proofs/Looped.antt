@@ -23,13 +23,13 @@ turning m n = turns (chainOf m) (m .«max_retry») n record { machine = view m; 
 
 pub turned-none : (m : Machine) → Whole m → Becomes m (turning m 0) m
 unfolding turns
-turned-none m w = record { machine = refl; chain = refl; limit = refl; whole = w }
+turned-none m w = record { machine = refl; chain = refl; maxRetry = refl; whole = w }
 
 pub turned-more : (m v r : Machine) (n : ℕ) → Becomes m (turning m n) v → Becomes v (turnOf (chainOf v) (v .«max_retry») (view v)) r → Becomes m (turning m (n + 1)) r
 turned-more m v r n a b = record {
-  machine = b .machine ∙ (λ j. turnOf (entries (a .chain j)) (a .limit j) (a .machine j)) ∙ sym (ap (λ (k : Run). k .machine) (turns-next (chainOf m) (m .«max_retry») n record { machine = view m; settled = [] })) ∙ ap (turning m) (sym (add-one n));
+  machine = b .machine ∙ (λ j. turnOf (entries (a .chain j)) (a .maxRetry j) (a .machine j)) ∙ sym (ap (λ (k : Run). k .machine) (turns-next (chainOf m) (m .«max_retry») n record { machine = view m; settled = [] })) ∙ ap (turning m) (sym (add-one n));
   chain = b .chain ∙ a .chain;
-  limit = b .limit ∙ a .limit;
+  maxRetry = b .maxRetry ∙ a .maxRetry;
   whole = b .whole;
 }
 
@@ -56,10 +56,10 @@ turned-enough m w h = ap (λ (r : Run). r .machine) (settle-turns (chainOf m) (m
 
 pub turned-rested : (m v : Machine) (n : ℕ) → Whole m → m .waiting ≡ Nothing → n ≤ 521 → Becomes m (turning m n) v → Rested v → Becomes m (settle (chainOf m) (m .«max_retry») (view m) .machine) v
 turned-rested m v n w h l b s =
-    let still : turnOf (chainOf m) (m .«max_retry») (turning m n) ≡ turning m n = (λ j. turnOf (entries (sym (b .chain) j)) (sym (b .limit) j) (sym (b .machine) j)) ∙ s ∙ b .machine in
+    let still : turnOf (chainOf m) (m .«max_retry») (turning m n) ≡ turning m n = (λ j. turnOf (entries (sym (b .chain) j)) (sym (b .maxRetry) j) (sym (b .machine) j)) ∙ s ∙ b .machine in
     record {
       machine = b .machine ∙ sym (fixed-from (chainOf m) (m .«max_retry») n 521 record { machine = view m; settled = [] } still l) ∙ turned-enough m w h;
       chain = b .chain;
-      limit = b .limit;
+      maxRetry = b .maxRetry;
       whole = b .whole;
     }

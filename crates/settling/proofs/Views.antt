@@ -15,7 +15,7 @@ use Rattle.model.specs.declared.Event.{Event}
 use Rattle.model.specs.declared.Effect.{Effect}
 use Rattle.model.specs.declared.Effect.the-variants.{LatchLockdown}
 use Rattle.chain.specs.declared.Chain.{Chain}
-use Rattle.chain.specs.Tables.{entries}
+use Rattle.chain.specs.Tables.{entries, size}
 use Rattle.store.specs.declared.Sink.{Sink}
 use Rattle.store.specs.Sink.{effectOf, held, effectAt}
 use Rattle.store.proofs.Laws.{held-length, at-held}
@@ -24,7 +24,6 @@ use Rattle.pending.specs.declared.OptionEvent.{OptionEvent}
 use Rattle.pending.specs.declared.OptionEvent.the-variants.{NoEvent, OneEvent}
 use Rattle.pending.specs.Queue.{events, firstOf, rest, atBack, latched, emits}
 use Rattle.machine.specs.declared.Work.{Work}
-use Rattle.chain.specs.Tables.{size}
 use Rattle.entry.specs.Premise.{Sane}
 use Rattle.rot.specs.Stepped.{bare, Stepped}
 use Rattle.settling.specs.declared.Machine.{Machine}
@@ -61,26 +60,26 @@ view-few m w = w .few
 
 -- What is read in the same way is whole in the same way.
 pub becomes-as : {m r : Machine} {x y : Model} → Becomes m x r → x ≡ y → Becomes m y r
-becomes-as b e = record { machine = b .machine ∙ e; chain = b .chain; limit = b .limit; whole = b .whole }
+becomes-as b e = record { machine = b .machine ∙ e; chain = b .chain; maxRetry = b .maxRetry; whole = b .whole }
 
 pub becomes-then : {m v r : Machine} {x : Model} (f : Model → Model) → Becomes m x v → Becomes v (f (view v)) r → Becomes m (f x) r
-becomes-then f a b = record { machine = b .machine ∙ ap f (a .machine); chain = b .chain ∙ a .chain; limit = b .limit ∙ a .limit; whole = b .whole }
+becomes-then f a b = record { machine = b .machine ∙ ap f (a .machine); chain = b .chain ∙ a .chain; maxRetry = b .maxRetry ∙ a .maxRetry; whole = b .whole }
 
 pub becomes-same : (m : Machine) → Whole m → Becomes m (view m) m
-becomes-same m w = record { machine = refl; chain = refl; limit = refl; whole = w }
+becomes-same m w = record { machine = refl; chain = refl; maxRetry = refl; whole = w }
 
 module _ (m : Machine) (w : Whole m) where
   pub waits-becomes : (u : Waiting) → Becomes m (waitingIs u (view m)) (waits u m)
   unfolding view
-  waits-becomes u = record { machine = refl; chain = refl; limit = refl; whole = record { sane = w .sane; room = w .room; few = w .few } }
+  waits-becomes u = record { machine = refl; chain = refl; maxRetry = refl; whole = record { sane = w .sane; room = w .room; few = w .few } }
 
   pub nexts-becomes : (k : ℕ) (es : List Effect) → drop k (held (m .batch)) ≡ es → Becomes m (leftIs es (view m)) (nexts k m)
   unfolding view
-  nexts-becomes k es e = record { machine = ap (λ (l : List Effect). leftIs l (view m)) e; chain = refl; limit = refl; whole = record { sane = w .sane; room = w .room; few = w .few } }
+  nexts-becomes k es e = record { machine = ap (λ (l : List Effect). leftIs l (view m)) e; chain = refl; maxRetry = refl; whole = record { sane = w .sane; room = w .room; few = w .few } }
 
   pub pends-becomes : (p : Pending) (b : Bool) (q : List Event) → events p ≡ q → length q ≤ 8 → Becomes m (failedIs b (queueIs q (view m))) (pends p b m)
   unfolding view
-  pends-becomes p b q e h = record { machine = ap (λ (l : List Event). failedIs b (queueIs l (view m))) e; chain = refl; limit = refl; whole = record { sane = w .sane; room = w .room; few = subst (λ (l : List Event). length l ≤ 8) (sym e) h } }
+  pends-becomes p b q e h = record { machine = ap (λ (l : List Event). failedIs b (queueIs l (view m))) e; chain = refl; maxRetry = refl; whole = record { sane = w .sane; room = w .room; few = subst (λ (l : List Event). length l ≤ 8) (sym e) h } }
 
   -- Nothing is left of a batch whose end is reached, and else the next effect and those after it.
   held-short : length (held (m .batch)) ≤ m .batch .len
@@ -175,7 +174,7 @@ module _ (m : Machine) (w : Whole m) (e : Event) (s : Work) (p : Pending) where
   stepped-becomes g h = record {
     machine = λ j. record { core = g .core j; waiting = m .waiting; left = g .effects j; queue = h j; failed = m .failed };
     chain = refl;
-    limit = refl;
+    maxRetry = refl;
     whole = record {
       sane = record { charted = w .sane .charted; sound = w .sane .sound; fit = g .fit };
       room = omega (arith, g .few, chain-few (m .chain) (bare (m .state) (m .rot)) (w .sane));

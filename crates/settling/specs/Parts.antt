@@ -1,7 +1,7 @@
 -- The parts of the code's machine that single functions change or look at.
 use mathlib.Core.Path.{_≡_}
 use mathlib.Core.List.{List}
-use Prim.Native.Nat.{ℕ, suc, _+_}
+use Prim.Native.Nat.{_+_}
 use lib.ListN.{drop}
 use Rattle.model.specs.declared.Effect.{Effect}
 use Rattle.store.specs.Sink.{held, effectAt}

@@ -39,7 +39,8 @@ queueIs q m = record { core = m .core; waiting = m .waiting; left = m .left; que
 abbrev pub failedIs : Bool → Model → Model
 failedIs b m = record { core = m .core; waiting = m .waiting; left = m .left; queue = m .queue; failed = b }
 
--- The first failure in a dispatch: the batch ends, and EffectFailed goes to the front of the queue.
+-- The first failure in a dispatch: the batch ends, the newest queued event is dropped if 8 are queued, and EffectFailed
+-- goes to the front of the queue.
 abbrev pub latch : Model → Model
 latch m = record { core = m .core; waiting = m .waiting; left = []; queue = latched (m .queue); failed = true }
 
@@ -47,7 +48,8 @@ latch m = record { core = m .core; waiting = m .waiting; left = []; queue = latc
 abbrev pub fail : Model → Model
 fail m = pick (m .failed) (leftIs [] m) (latch m)
 
--- An event to the back of the queue. One that finds 8 queued is lost, and the first failure if there was none before.
+-- An event to the back of the queue. One that finds 8 queued is lost: that is the first failure, if there was none; after
+-- one, the batch goes on.
 abbrev pub enqueue : Event → Model → Model
 enqueue e m = pick (hasRoom (m .queue)) (queueIs (m .queue ++ (e ∷ [])) m) (pick (m .failed) m (latch m))
 
@@ -67,7 +69,7 @@ abbrev pub take·front : List Component → ℕ → Event → List Event → Mod
 take·front ch max e q m = record { core = stepOf ch max (m .core) e .core; waiting = m .waiting; left = stepOf ch max (m .core) e .said; queue = q; failed = m .failed }
 
 -- One turn: nothing while an effect waits; else the next effect of the batch; else the front event; else the dispatch has
--- ended, and its failure with it.
+-- ended, and it counts as failed no more.
 abbrev pub turnBy : List Component → ℕ → Model → Waiting → List Effect → List Event → Model
 turnBy ch max m (Handed x) es q = m
 turnBy ch max m Nothing (x ∷ es) q = handOut x es m (emits x)
@@ -103,7 +105,8 @@ unfoldable pub turns : List Component → ℕ → ℕ → Run → Run
 turns ch max zero r = r
 turns ch max (suc n) r = turns ch max n (turned ch max r)
 
--- Turns up to the next effect or the end: at most one for each effect left, one for each of 8 events and one more. A turn
--- beyond that changes nothing.
+-- Turns up to the next effect or the end: at most one for each effect left, one for each of 8 events and one more, since
+-- what an event hands out never begins with Emit. A turn beyond that changes nothing: the contracts say of every machine
+-- that a call gives that it rests.
 unfoldable pub settle : List Component → ℕ → Model → Run
 settle ch max m = turns ch max (length (m .left) + 9) record { machine = m; settled = [] }

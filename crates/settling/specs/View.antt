@@ -2,17 +2,16 @@
 use mathlib.Core.Path.{_≡_}
 use mathlib.Core.Bool.{Bool, false}
 use mathlib.Core.List.{List, []}
-use Prim.Native.Nat.{ℕ, _≤_}
+use Prim.Native.Nat.{_≤_}
 use lib.ListN.{length, drop}
 use Rattle.model.specs.declared.Component.{Component}
 use Rattle.model.specs.declared.Event.{Event}
 use Rattle.model.specs.declared.Effect.{Effect}
-use Rattle.chain.specs.Tables.{entries}
+use Rattle.chain.specs.Tables.{entries, size}
 use Rattle.store.specs.Sink.{held}
 use Rattle.pending.specs.Queue.{events, emits}
 use Rattle.pending.specs.declared.OptionEvent.the-variants.{NoEvent}
 use Rattle.machine.specs.View.{coreOf}
-use Rattle.chain.specs.Tables.{size}
 use Rattle.entry.specs.Premise.{Sane}
 use Rattle.rot.specs.Stepped.{bare}
 use Rattle.settling.specs.declared.Machine.{Machine}
@@ -27,18 +26,18 @@ view m = record { core = coreOf (size (m .chain)) (bare (m .state) (m .rot)); wa
 abbrev pub chainOf : Machine → List Component
 chainOf m = entries (m .chain)
 
--- Within a call: an accepted chain with its own tables, nothing isolated past it, the cursor within it or at its end, at
+-- Within and between calls: an accepted chain with its own tables, nothing isolated past it, the cursor within it or at its end, at
 -- most 512 effects and 8 events.
 pub record Whole (m : Machine) : Type 0 where
   pub sane : Sane (m .chain) (bare (m .state) (m .rot))
   pub room : m .batch .len ≤ 512
   pub few : length (events (m .pending)) ≤ 8
 
--- r is a machine for the same chain and max_retry, and it is read as x.
+-- r is a machine for the same chain and max_retry as m, and it is read as x.
 pub record Becomes (m : Machine) (x : Model) (r : Machine) : Type 0 where
   pub machine : view r ≡ x
   pub chain : r .chain ≡ m .chain
-  pub limit : r .«max_retry» ≡ m .«max_retry»
+  pub maxRetry : r .«max_retry» ≡ m .«max_retry»
   pub whole : Whole r
 
 -- Between calls an effect other than Emit waits, or nothing is left, queued or failed.
@@ -49,7 +48,8 @@ RestsBy Nothing es q f = (es ≡ []) × (q ≡ []) × (f ≡ false)
 abbrev pub Rests : Model → Type 0
 Rests m = RestsBy (m .waiting) (m .left) (m .queue) (m .failed)
 
--- What holds of every machine that `new`, `begin` and `reply` give. It says nothing of how the machine came about.
+-- What holds of every machine that `new` gives on 0 and that `begin` and `reply` give. It says nothing of how the machine
+-- came about.
 pub record Valid (m : Machine) : Type 0 where
   pub whole : Whole m
   pub rests : Rests (view m)

@@ -32,9 +32,8 @@ use Rattle.entry.specs.Entry.{enterRecovering, enterWalk, onward}
 use Rattle.walks.specs.Walks.{pass, verifyFailed, componentReady}
 use Rattle.corruption.specs.Corruption.{gateThen, recover, corrupt, moveOn, abortion}
 use Rattle.failures.specs.Failures.{timeout, bootFailed}
-use Rattle.recovery.specs.Recovery.{restored, unavailable}
+use Rattle.recovery.specs.Recovery.{restored, unavailable, retryAt, startOver, exhausted}
 use Rattle.updates.specs.Updates.{power, commitTimeout}
-use Rattle.recovery.specs.Recovery.{retryAt, startOver, exhausted}
 use Rattle.rot.specs.Step.{rule, inChain, stepOf}
 use Rattle.rot.proofs.Choice.{byPolicyP, byKindP, byStateP}
 use Rattle.pending.specs.Queue.{emits}

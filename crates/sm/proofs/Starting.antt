@@ -15,7 +15,7 @@ use Rattle.components.specs.declared.Verdict.{Verdict}
 use Rattle.components.specs.declared.Verdict.the-variants.{Accepted, Refused}
 use Rattle.components.proofs.Accepted.{accepted}
 use Rattle.chain.specs.declared.Chain.{Chain}
-use Rattle.chain.specs.Tables.{entries}
+use Rattle.chain.specs.Tables.{entries, size}
 use Rattle.chain.specs.Filled.{ChartOf}
 use Rattle.chain.proofs.Room.{all-kept}
 use Rattle.store.specs.Sink.{emptySink, held}
@@ -23,7 +23,6 @@ use Rattle.pending.specs.Queue.{events, noEvents}
 use Rattle.machine.specs.declared.ComponentStatus.{ComponentStatus}
 use Rattle.machine.specs.Status.{fresh}
 use Rattle.machine.specs.View.{newRot, Fit}
-use Rattle.chain.specs.Tables.{size}
 use Rattle.machine.proofs.New.{new-fits, new-statuses}
 use Rattle.settling.specs.declared.Machine.{Machine}
 use Rattle.settling.specs.declared.Waiting.the-variants.{Nothing}
@@ -31,7 +30,7 @@ use Rattle.settling.specs.View.{view, Valid}
 use Rattle.settling.proofs.Views.{never}
 use Rattle.sm.specs.Calls.{startOf}
 use Rattle.sm.specs.declared.Made.{Made}
-use Rattle.sm.specs.Gives.{Fresh, NewGives}
+use Rattle.sm.specs.Gives.{blank, Fresh, NewGives}
 
 -- A list that is not refused is accepted.
 pub not-refused : (v : Verdict) → refuses v ≡ false → v ≡ Accepted
@@ -54,6 +53,11 @@ number-0 (Refused (ForwardDependency i d)) h = absurd (omega arith)
 pub made-valid : (l : ComponentList) (max : ℕ) (r : Made) → NewGives l max r → r .answer .number ≡ 0 → Valid (r .machine)
 made-valid l max r g h = g .accepted (number-0 (verdictOf (l .len) (entriesOf l)) (ap (λ (a : Answer). a .number) (sym (g .answer)) ∙ h)) .valid
 
+-- The machine of a refusal is none that `begin` or `reply` takes: it has no component.
+pub blank-invalid : Valid blank → ⊥
+unfolding blank
+blank-invalid v = omega (arith, v .whole .sane .sound .some)
+
 abbrev pub start : Chain → ℕ → Machine
 start c max = record { chain = c; «max_retry» = max; state = PowerOnReset; rot = newRot; batch = emptySink; next = 0; waiting = Nothing; pending = noEvents; failed = false }
 
@@ -66,7 +70,7 @@ start-fresh l max c full h g =
     record {
       machine = ap (λ (st : List ComponentStatus). record { core = record { state = PowerOnReset; cursor = 0; statuses = st; window = false }; waiting = Nothing; left = []; queue = []; failed = false }) (new-statuses (size c) few ∙ ap (λ (ch : List Component). replicate (length ch) fresh) chain);
       chain = chain;
-      limit = refl;
+      maxRetry = refl;
       valid = record {
         whole = record {
           sane = record { charted = g .charted; sound = subst (λ (k : ComponentList). Sound (k .len) (entriesOf k)) (sym (g .same)) sound; fit = new-fits (size c) };

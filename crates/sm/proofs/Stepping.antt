@@ -55,7 +55,7 @@ pub settles : (m v r : Machine) (y : Model) (e : Called) → Becomes m y v → y
     → CallGives m (answered (settle (chainOf m) (m .«max_retry») y)) e
 settles m v r y e a h f b q =
     let run : Run = settle (chainOf m) (m .«max_retry») y in
-    let same : view r ≡ run .machine = b .machine ∙ (λ j. settle (entries (a .chain j)) (a .limit j) (a .machine j) .machine) in
+    let same : view r ≡ run .machine = b .machine ∙ (λ j. settle (entries (a .chain j)) (a .maxRetry j) (a .machine j) .machine) in
     let ends = settle-ends (chainOf m) (m .«max_retry») y h f in
     subst (CallGives m (answered run)) (sym q)
     record {
@@ -63,7 +63,7 @@ settles m v r y e a h f b q =
       number = refl;
       effect = sym (view-waiting r) ∙ ap (λ (x : Model). x .waiting) same;
       chain = b .chain ∙ a .chain;
-      limit = b .limit ∙ a .limit;
+      maxRetry = b .maxRetry ∙ a .maxRetry;
       kept = λ k. absurd (k refl);
       few = ends .1;
       valid = record { whole = b .whole; rests = subst Rests (sym same) (ends .0) };
@@ -71,7 +71,7 @@ settles m v r y e a h f b q =
 
 -- A refused call gives the machine that it was given.
 pub refuses : (m : Machine) (n : ℕ) (e : Called) → Valid m → e ≡ reported m n → CallGives m (refused n (view m)) e
-refuses m n e w q = subst (CallGives m (refused n (view m))) (sym q) record { machine = refl; number = refl; effect = sym (view-waiting m); chain = refl; limit = refl; kept = λ k. refl; few = omega arith; valid = w }
+refuses m n e w q = subst (CallGives m (refused n (view m))) (sym q) record { machine = refl; number = refl; effect = sym (view-waiting m); chain = refl; maxRetry = refl; kept = λ k. refl; few = omega arith; valid = w }
 
 module _ (m : Machine) (w : Valid m) (e : Event) where
   abbrev done : Bool

@@ -34,6 +34,7 @@ doneBy (Handed x) q = false
 doneBy Nothing [] = true
 doneBy Nothing (e ∷ q) = false
 
+-- Begin an event: it is settled up to the next effect or the end.
 unfoldable pub beginOf : List Component → ℕ → Model → Event → Expected
 beginOf ch max m e = pick (doneBy (m .waiting) (m .queue)) (answered (settle ch max (queueIs (e ∷ []) m))) (refused 10 m)
 
@@ -42,6 +43,7 @@ abbrev pub replyBy : List Component → ℕ → Model → Reply → Waiting → 
 replyBy ch max m a Nothing = refused 7 m
 replyBy ch max m a (Handed x) = answered (settle ch max (replied a (waitingIs Nothing m)))
 
+-- Reply to the waiting effect: the machine settles up to the next effect or the end.
 unfoldable pub replyOf : List Component → ℕ → Model → Reply → Expected
 replyOf ch max m a = replyBy ch max m a (m .waiting)
 

@@ -1,9 +1,9 @@
 -- What the contracts of new, begin and reply say.
 use mathlib.Core.Path.{_≡_}
-use mathlib.Core.Bool.{true, false}
+use mathlib.Core.Bool.{false}
 use Prim.Native.Nat.{ℕ, _≤_}
 use lib.ListN.{length, replicate}
-use Rattle.components.specs.Chain.{entriesOf, noEntries, refuses, verdictOf, answerOf}
+use Rattle.components.specs.Chain.{entriesOf, noEntries, verdictOf, answerOf}
 use Rattle.model.specs.declared.State.the-variants.{Locked}
 use Rattle.chain.specs.declared.Chain.{Chain}
 use Rattle.store.specs.Sink.{emptySink}
@@ -25,30 +25,32 @@ noChain = record { list = noEntries; positions = replicate 256 0; parents = repl
 unfoldable pub blank : Machine
 blank = record { chain = noChain; «max_retry» = 0; state = Locked; rot = newRot; batch = emptySink; next = 0; waiting = Nothing; pending = noEvents; failed = false }
 
--- A machine for the list and max_retry, from its start.
+-- The machine of an accepted list and a max_retry, at power-on. What its arrays hold past their lengths is left open.
 pub record Fresh (l : ComponentList) (max : ℕ) (m : Machine) : Type 0 where
   pub machine : view m ≡ startOf (entriesOf l)
   pub chain : chainOf m ≡ entriesOf l
-  pub limit : m .«max_retry» ≡ max
+  pub maxRetry : m .«max_retry» ≡ max
   pub valid : Valid m
 
 -- new: the number and both places of questions 2 to 6, and a machine only on 0.
 pub record NewGives (l : ComponentList) (max : ℕ) (r : Made) : Type 0 where
   pub answer : r .answer ≡ answerOf (verdictOf (l .len) (entriesOf l))
   pub accepted : verdictOf (l .len) (entriesOf l) ≡ Accepted → Fresh l max (r .machine)
-  pub refused : refuses (verdictOf (l .len) (entriesOf l)) ≡ true → r .machine ≡ blank
+  pub refused : (verdictOf (l .len) (entriesOf l) ≡ Accepted → ⊥) → r .machine ≡ blank
 
 -- What a call reports of the machine that it gives back.
 abbrev pub reported : Machine → ℕ → Called
 reported m n = record { machine = m; number = n; effect = m .waiting }
 
--- A step call on m of which x is expected.
+-- A step call on the machine m, for which document 01 gives x: the machine as it is read, the number and the effect; the
+-- chain and max_retry stay. A refused call gives back m itself. No call settles over 8 events before the next effect or the
+-- end; which ones is told by x and not returned. A step call has no places.
 pub record CallGives (m : Machine) (x : Expected) (r : Called) : Type 0 where
   pub machine : view (r .machine) ≡ x .machine
   pub number : r .number ≡ x .number
   pub effect : r .effect ≡ x .effect
   pub chain : r .machine .chain ≡ m .chain
-  pub limit : r .machine .«max_retry» ≡ m .«max_retry»
+  pub maxRetry : r .machine .«max_retry» ≡ m .«max_retry»
   pub kept : (x .number ≡ 0 → ⊥) → r .machine ≡ m
   pub few : length (x .settled) ≤ 8
   pub valid : Valid (r .machine)

@@ -1,4 +1,4 @@
--- Who is isolated, as the C side reads it: a flag for each of 256 positions, none past the chain.
+-- Who is isolated, as the C side reads it: a flag for each of 256 positions, none set past the chain.
 use Prim.Native.Nat.{_-_}
 use mathlib.Core.Bool.{Bool, false}
 use mathlib.Core.List.{List, _++_, map}

@@ -12,10 +12,10 @@ ghost use Rattle.sm.specs.Calls.{doneBy, beginOf, replyOf};
 ghost use Rattle.sm.specs.Isolation.{isolation};
 ghost use Rattle.sm.specs.Gives.{blank, Fresh, NewGives, CallGives, reported};
 use chain::Chain;
-use machine::ComponentStatus;
-use machine::Rot;
 use components::Answer;
 use components::ComponentList;
+use machine::ComponentStatus;
+use machine::Rot;
 use model::Event;
 use model::State;
 use pending::Pending;
@@ -30,7 +30,7 @@ pub struct Made {
     pub answer: Answer,
 }
 
-// What `begin` and `reply` give: the machine, the number of a question or 0, and the effect now waiting.
+// What `begin` and `reply` give: the machine, the number of a question or 0, and the effect now waiting or none.
 pub struct Called {
     pub machine: Machine,
     pub number: u64,

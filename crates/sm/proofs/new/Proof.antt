@@ -43,7 +43,7 @@ returns-2 c =
     record {
       answer = c .before .before .before .answer .ensures ∙ ap answerOf (v .ensures);
       accepted = λ e. c .started .ensures;
-      refused = λ e. never (sym yes₁ ∙ e);
+      refused = λ e. absurd (e (not-refused _ yes₁));
     }
 
 pub new-spec : {M : Type 1} → statement M
