@@ -66,12 +66,32 @@ fn number<T: std::str::FromStr>(argument: &OsStr) -> Result<T, String> {
 /// Prints the answer to each case on standard input.
 fn print_answers<S: Subject>() -> io::Result<()> {
     let mut output = BufWriter::new(io::stdout().lock());
-    for (index, line) in io::stdin().lock().lines().enumerate() {
-        let case = S::parse(&line?)
-            .map_err(|message| io::Error::other(format!("line {}: {message}", index + 1)))?;
-        writeln!(output, "{}", S::answer(&case))?;
+    // The lines of the case so far, and the number of its first one.
+    let mut case: Vec<String> = Vec::new();
+    let mut first = 1;
+    for line in io::stdin().lock().lines() {
+        let line = line?;
+        if S::begins(&line) && !case.is_empty() {
+            print_answer::<S>(&mut output, &case, first)?;
+            first += case.len();
+            case.clear();
+        }
+        case.push(line);
+    }
+    if !case.is_empty() {
+        print_answer::<S>(&mut output, &case, first)?;
     }
     output.flush()
+}
+
+fn print_answer<S: Subject>(
+    output: &mut impl Write,
+    lines: &[String],
+    first: usize,
+) -> io::Result<()> {
+    let case = S::parse(&lines.join("\n"))
+        .map_err(|message| io::Error::other(format!("case at line {first}: {message}")))?;
+    writeln!(output, "{}", S::answer(&case))
 }
 
 /// Prints the failures and the counts; success only if nothing failed.

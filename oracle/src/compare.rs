@@ -80,21 +80,24 @@ fn compare_answers<S: Subject>(
     seed: u64,
     count: usize,
 ) -> io::Result<Outcome<S::Counts>> {
-    let mut outcome = Outcome::default();
+    let mut outcome = Outcome::<S::Counts>::default();
     for case in S::cases(seed).take(count) {
-        let expected = S::answer(&case);
-        let mut line = Vec::new();
-        if port.read_until(b'\n', &mut line)? == 0 {
-            let message = "the port printed too few lines".to_string();
-            outcome.failures.push(message);
-            return Ok(outcome);
-        }
-        outcome.counts.record(&case, &expected);
-        if line != format!("{expected}\n").into_bytes() {
-            outcome.differences += 1;
-            outcome.failures.push(difference(&case, &expected, &line));
-            if outcome.differences == MOST_DIFFERENCES {
+        let answer = S::answer(&case);
+        outcome.counts.record(&case, &answer);
+        for (index, expected) in answer.to_string().split('\n').enumerate() {
+            let mut line = Vec::new();
+            if port.read_until(b'\n', &mut line)? == 0 {
+                let message = "the port printed too few lines".to_string();
+                outcome.failures.push(message);
                 return Ok(outcome);
+            }
+            if line != format!("{expected}\n").into_bytes() {
+                outcome.differences += 1;
+                let message = difference(&case, index, expected, &line);
+                outcome.failures.push(message);
+                if outcome.differences == MOST_DIFFERENCES {
+                    return Ok(outcome);
+                }
             }
         }
     }
@@ -105,14 +108,21 @@ fn compare_answers<S: Subject>(
     Ok(outcome)
 }
 
-fn difference(case: &impl Display, expected: &impl Display, line: &[u8]) -> String {
+/// The case up to its line `index`, and the two answers to that line.
+fn difference(case: &impl Display, index: usize, expected: &str, line: &[u8]) -> String {
+    let case = case.to_string();
+    let asked: Vec<&str> = case.split('\n').take(index + 1).collect();
     let port = String::from_utf8_lossy(line);
-    format!("case {case}\noracle {expected}\nport {port:?}")
+    format!(
+        "case {}\noracle {expected}\nport {port:?}",
+        asked.join("\n")
+    )
 }
 
 #[cfg(test)]
 mod tests {
     use super::*;
+    use crate::histories::Histories;
     use crate::lists::Lists;
     use crate::steps::Steps;
 
@@ -134,6 +144,25 @@ mod tests {
     fn right_answers_agree() {
         assert!(failures::<Lists>(&right_answers::<Lists>()).is_empty());
         assert!(failures::<Steps>(&right_answers::<Steps>()).is_empty());
+        assert!(failures::<Histories>(&right_answers::<Histories>()).is_empty());
+    }
+
+    #[test]
+    fn a_difference_names_the_calls_up_to_it() {
+        let mut port = right_answers::<Histories>();
+        let history = Histories::cases(SEED).nth(1).unwrap();
+        let before = Histories::cases(SEED).next().unwrap().to_string();
+        let line = before.split('\n').count() + 1;
+        let starts = port.iter().enumerate().filter(|(_, byte)| **byte == b'\n');
+        let (place, _) = starts
+            .map(|(place, _)| (place + 1, ()))
+            .nth(line - 1)
+            .unwrap();
+        port[place] = b'8';
+        let asked: Vec<String> = history.to_string().split('\n').map(String::from).collect();
+        let failures = failures::<Histories>(&port);
+        assert_eq!(failures.len(), 1);
+        assert!(failures[0].starts_with(&format!("case {}\n{}\noracle ", asked[0], asked[1])));
     }
 
     #[test]

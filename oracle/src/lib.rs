@@ -4,6 +4,7 @@
 
 pub mod command;
 pub mod compare;
+pub mod histories;
 pub mod lists;
 pub mod random;
 pub mod steps;

@@ -9,14 +9,19 @@ pub const MINIMUMS_FROM: u64 = 100_000;
 pub trait Subject: 'static {
     /// The name of its program.
     const NAME: &'static str;
-    /// One line of input.
+    /// One or more lines of input, with no byte 10 after the last.
     type Case: Display;
-    /// One line of output.
+    /// One line of output for each line of the case.
     type Answer: Display;
     type Counts: Counts<Self::Case, Self::Answer>;
 
-    /// Reads a case from a line without its byte 10.
-    fn parse(line: &str) -> Result<Self::Case, String>;
+    /// Whether the line begins a case, where lines came before it.
+    fn begins(_line: &str) -> bool {
+        true
+    }
+
+    /// Reads a case from its lines, with no byte 10 after the last.
+    fn parse(text: &str) -> Result<Self::Case, String>;
 
     /// The oracle's answer.
     fn answer(case: &Self::Case) -> Self::Answer;

@@ -8,7 +8,7 @@ use native.Mathlib.Omega.{arith}
 use lib.ListN.{length, length-append, length-take, length-replicate}
 use borrow.Author.Tests.{ltb-true}
 use Rattle.model.specs.Vocabulary.{pick}
-use Rattle.components.specs.Chain.{entriesOf, verdictOf, answerOf, refuses, Sound}
+use Rattle.components.specs.Chain.{entriesOf, verdictOf, answerOf, Sound}
 use Rattle.model.specs.declared.Component.{Component}
 use Rattle.components.specs.declared.ComponentList.{ComponentList}
 use Rattle.components.specs.declared.Verdict.the-variants.{Accepted}
@@ -36,7 +36,6 @@ use Rattle.sm.specs.Calls.{Expected, answered, refused, doneBy, beginOf, replyB
 use Rattle.sm.specs.Gives.{NewGives, CallGives}
 use Rattle.history.specs.History.{Call, Begin, Reply·to, expected, machineAfter, expectedAfter, answersTo}
 use Rattle.history.specs.Demand.{Follows, made, called, History, NotEmpty}
-use Rattle.history.proofs.Statuses.{not-true}
 use Rattle.history.proofs.Few.{Reached, step-reached, step-few, start-reached}
 use Rattle.history.proofs.Stored.{storeOf, Fitting, Sizes, store-view, store-chain, store-entries, store-maxRetry, store-valid, store-sizes}
 
@@ -235,7 +234,7 @@ module _ (l : ComponentList) (max : ℕ) (v : verdictOf (l .len) (entriesOf l) �
   begins = record {
     answer = refl;
     accepted = λ u. record { machine = read []; chain = chained []; maxRetry = limited []; valid = valid [] };
-    refused = λ u. not-true (sym (ap refuses v) ∙ u);
+    refused = λ u. absurd (u v);
   }
 
   follows : (ks : List Call) → Follows l max ks (answersTo (entriesOf l) max ks) (at ks)

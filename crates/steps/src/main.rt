@@ -1,22 +1,34 @@
-// Reads cases, a machine and an event each, one on a line, and writes what one step makes of each.
+// Reads lines of numbers and answers each. A line is a case of its own, or a step call on the machine at hand.
 //
 // A case is a row of numbers: max_retry, n, n entries (id, kind, policy, region, dependency or 256), state, its component
 // or 256, cursor, window, n statuses (isolated, retry, awaiting_boot, released), event and three numbers of it. The answer
-// is state, its component or 256, cursor, window, n statuses, the number of effects, and four numbers for each effect.
-// A list that is no chain is answered with its refusal's number, place and other place. Any byte that is no digit ends a
-// number. A number out of its range is brought into it, so that every line has an answer.
+// is what one step makes of it: state, its component or 256, cursor, window, n statuses, the number of effects, and four
+// numbers for each effect. A list that is no chain is answered with its refusal's number, place and other place.
+//
+// A line whose first number is 256 or more is a step call. 256, max_retry, n, n entries: `new`, answered with the number
+// and both places. 257 with an event of four numbers: `begin`. 258, 259 with an event, 260: `reply` done, then, failed.
+// 261, state, its component or 256, cursor, window, n statuses: the machine at hand is set up so, with nothing waiting,
+// left or queued. A call is answered with its number, the effect (four numbers, or 18 0 0 0 for none), state, its
+// component or 256, cursor, window and the number of isolated components; and, where no effect waits, the four words of
+// the isolated positions and n statuses. Without a machine every call but `new` is answered with 99.
+//
+// Any byte that is no digit ends a number. A number out of its range is brought into it, so that every line has an answer.
 ghost use mathlib.Core.Path.{_≡_};
 ghost use mathlib.Core.Bool.{false};
 ghost use Prim.Native.Nat.{_-_, _≤_, _<_};
 ghost use lib.ListN.{drop, replicate};
 ghost use Rattle.isolated.specs.Flags.{flags};
 ghost use Rattle.machine.specs.View.{Fit};
+ghost use Rattle.settling.specs.View.{Valid};
+ghost use Rattle.steps.specs.Hand.{Callable};
 use chain::Chain;
+use components::Answer;
 use components::ComponentList;
-use components::Verdict;
 use isolated::Isolated;
 use libc::STDIN_FILENO;
 use libc::STDOUT_FILENO;
+use machine::ComponentLifecycle;
+use machine::ComponentStatus;
 use machine::Rot;
 use machine::Work;
 use model::BootFailureKind;
@@ -31,14 +43,27 @@ use model::OptionId;
 use model::PowerOnResult;
 use model::RegionId;
 use model::State;
+use pending::Pending;
+use settling::Machine;
+use settling::Reply;
+use settling::Waiting;
+use sm::Called;
 use store::Sink;
 use store::Status;
 
-// The numbers of the line so far, and the number at hand. A case has at most 2305 numbers.
+// The machine of the step calls, if there is one.
+struct Kept {
+    has: bool,
+    machine: Machine,
+}
+
+// The numbers of the line so far, the number that is being read, and what is kept from line to line. A case has at most
+// 2305 numbers.
 struct Line {
     numbers: [u64; 2400],
     count: usize,
     number: u64,
+    kept: Kept,
 }
 
 // Four numbers of an answer: of the machine, of a status or of an effect.
@@ -130,13 +155,16 @@ fn component_at(ns: &[u64], i: usize) -> Component
     }
 }
 
-// The entries of a case. Of a list with more than 255, 256 are handed in, so that it is refused as too long.
-fn list_of(ns: &[u64]) -> ComponentList {
-    let n = up_to(number_at(ns, 1), 256);
+// The entries whose number stands at place i. Of a list with more than 255, 256 are handed in, so that it is refused as
+// too long.
+fn list_of(ns: &[u64], i: usize) -> ComponentList
+    requires { ⌜ i < 16 ⌝ }
+{
+    let n = up_to(number_at(ns, i), 256);
     let mut list = ComponentList::new();
     let mut k: usize = 0;
     while k < n {
-        list = list.push(component_at(ns, 2 + 5 * k));
+        list = list.push(component_at(ns, i + 1 + 5 * k));
         k += 1;
     }
     list
@@ -449,8 +477,7 @@ fn write_line(out: &[u8], len: usize) {
     io::write_all(STDOUT_FILENO, b"\n");
 }
 
-fn write_refusal(v: Verdict) {
-    let a = v.answer();
+fn write_answer(a: Answer) {
     let mut out = [0u8; 16384];
     let x = put_number(&mut out, 0, a.number);
     let y = put_number(&mut out, x, a.place);
@@ -476,11 +503,11 @@ fn write_machine(w: Work, n: usize)
 }
 
 // One case: the machine that it sets up takes one step.
-fn answer(ns: &[u64]) {
-    let list = list_of(ns);
+fn answer_case(ns: &[u64]) {
+    let list = list_of(ns, 1);
     let v = list.verdict();
     if v.is_refused() {
-        write_refusal(v);
+        write_answer(v.answer());
         return;
     }
     let chain = Chain::of(list);
@@ -493,20 +520,192 @@ fn answer(ns: &[u64]) {
     write_machine(w, n);
 }
 
-// The case of the first numbers alone: what stands past them is of an earlier line.
-fn answer_first(numbers: &[u64], count: usize) {
+fn lifecycle_number(l: ComponentLifecycle) -> u64 {
+    match l {
+        ComponentLifecycle::Nominal => 0,
+        ComponentLifecycle::Isolated => 1,
+    }
+}
+
+fn status_numbers(s: ComponentStatus) -> Row {
+    let l = s.lifecycle;
+    row_of(
+        lifecycle_number(l),
+        s.retry as u64,
+        bit(s.awaiting_boot),
+        bit(s.released),
+    )
+}
+
+fn waiting_numbers(w: Waiting) -> Row {
+    match w {
+        Waiting::Nothing => alone(18),
+        Waiting::Handed(effect) => effect_numbers(effect),
+    }
+}
+
+// The statuses that users read of a machine.
+fn put_read_statuses(out: &mut [u8], from: usize, m: Machine) -> usize {
+    let n = up_to(sm::count(m) as u64, 255);
+    let mut at = from;
+    let mut p: usize = 0;
+    while p < n {
+        at = put_row(out, at, status_numbers(sm::status(m, p)));
+        p += 1;
+    }
+    at
+}
+
+// What is read of a machine only at the end of a dispatch: the isolated positions and the statuses.
+fn put_rest(out: &mut [u8], from: usize, m: Machine) -> usize {
+    let waiting = sm::waiting(m);
+    match waiting {
+        Waiting::Handed(_) => from,
+        Waiting::Nothing => {
+            let words = sm::isolated_words(m);
+            let row = row_of(words[0], words[1], words[2], words[3]);
+            let at = put_row(out, from, row);
+            put_read_statuses(out, at, m)
+        }
+    }
+}
+
+fn write_call(number: u64, effect: Waiting, m: Machine) {
+    let rot = m.rot;
+    let mut out = [0u8; 16384];
+    let a = put_number(&mut out, 0, number);
+    let b = put_row(&mut out, a, waiting_numbers(effect));
+    let row = machine_numbers(sm::state(m), rot.cursor, rot.pending_commit);
+    let c = put_row(&mut out, b, row);
+    let d = put_number(&mut out, c, sm::isolated_count(m) as u64);
+    let e = put_rest(&mut out, d, m);
+    write_line(&out, e);
+}
+
+// The call is answered, and its machine is kept.
+fn keep_called(called: Called) -> Machine
+    requires { ⌜ Valid (called .machine) ⌝ }
+    ensures { λ r. ⌜ Valid r ⌝ }
+{
+    let m = called.machine;
+    let effect = called.effect;
+    write_call(called.number, effect, m);
+    m
+}
+
+// The machine at hand in another situation: a comparison starts here where no history leads.
+fn set_up(ns: &[u64], m: Machine) -> Machine
+    requires { ⌜ Valid m ⌝ }
+    ensures { λ r. ⌜ Valid r ⌝ }
+{
+    let chain = m.chain;
+    let n = chain.count();
+    let rot = machine_at(ns, 3, n);
+    Machine {
+        chain: chain,
+        max_retry: m.max_retry,
+        state: state_at(ns, 1),
+        rot: rot,
+        batch: Sink::new(),
+        next: 0,
+        waiting: Waiting::Nothing,
+        pending: Pending::new(),
+        failed: false,
+    }
+}
+
+fn reply_of(ns: &[u64]) -> Reply {
+    match number_at(ns, 0) {
+        258 => Reply::Done,
+        259 => Reply::Then(event_at(ns, 1)),
+        _ => Reply::Failed,
+    }
+}
+
+// A call on the machine m.
+fn call(ns: &[u64], m: Machine) -> Machine
+    requires { ⌜ Valid m ⌝ }
+    ensures { λ r. ⌜ Valid r ⌝ }
+{
+    let kind = number_at(ns, 0);
+    if kind == 257 {
+        return keep_called(sm::begin(m, event_at(ns, 1)));
+    }
+    if kind < 261 {
+        return keep_called(sm::reply(m, reply_of(ns)));
+    }
+    let v = set_up(ns, m);
+    write_call(0, Waiting::Nothing, v);
+    v
+}
+
+// The machine of a list. A refused list leaves none at hand.
+fn answer_new(ns: &[u64]) -> Kept
+    ensures { λ r. ⌜ Callable r ⌝ }
+{
+    let made = sm::new(list_of(ns, 2), byte_at(ns, 1));
+    let a = made.answer;
+    let machine = made.machine;
+    write_answer(a);
+    Kept {
+        has: a.number == 0,
+        machine: machine,
+    }
+}
+
+fn answer_call(ns: &[u64], kept: Kept) -> Kept
+    requires { ⌜ Callable kept ⌝ }
+    ensures { λ r. ⌜ Callable r ⌝ }
+{
+    if number_at(ns, 0) == 256 {
+        return answer_new(ns);
+    }
+    if kept.has {
+        let m = kept.machine;
+        return Kept {
+            has: true,
+            machine: call(ns, m),
+        };
+    }
+    io::write_all(STDOUT_FILENO, b"99\n");
+    kept
+}
+
+fn answer(ns: &[u64], kept: Kept) -> Kept
+    requires { ⌜ Callable kept ⌝ }
+    ensures { λ r. ⌜ Callable r ⌝ }
+{
+    if number_at(ns, 0) < 256 {
+        answer_case(ns);
+        return kept;
+    }
+    answer_call(ns, kept)
+}
+
+// The line of the first numbers alone: what stands past them is of an earlier line.
+fn answer_first(numbers: &[u64], count: usize, kept: Kept) -> Kept
+    requires { ⌜ Callable kept ⌝ }
+    ensures { λ r. ⌜ Callable r ⌝ }
+{
     let n = up_to(count as u64, numbers.len());
-    answer(&numbers[..n]);
+    answer(&numbers[..n], kept)
 }
 
 // A line has ended. It is lent as an array, whose length its type shows, so that the loop need not show it.
-fn end_line(numbers: &[u64; 2400], count: usize) {
-    answer_first(numbers, count);
+fn end_line(numbers: &[u64; 2400], count: usize, kept: Kept) -> Kept
+    requires { ⌜ Callable kept ⌝ }
+    ensures { λ r. ⌜ Callable r ⌝ }
+{
+    answer_first(numbers, count, kept)
 }
 
 // The bytes of a chunk, one after the other. A number past the room of a line is dropped.
-fn feed(line: Line, chunk: &[u8]) -> Line {
+fn feed(line: Line, chunk: &[u8]) -> Line
+    requires { ⌜ Callable (line .kept) ⌝ }
+    ensures { λ r. ⌜ Callable (r .kept) ⌝ }
+{
     let mut at: Line = line;
+    let mut kept = at.kept;
     let mut i: usize = 0;
     while i < chunk.len() {
         let b = chunk[i];
@@ -522,11 +721,24 @@ fn feed(line: Line, chunk: &[u8]) -> Line {
             at.number = with_digit(at.number, (b % 48) as u64);
         }
         if b == 10 {
-            end_line(&at.numbers, at.count);
+            kept = end_line(&at.numbers, at.count, kept);
             at.count = 0;
         }
     }
+    at.kept = kept;
     at
+}
+
+// Before any line no machine is at hand: `new` refuses the empty list.
+fn none_kept() -> Kept
+    ensures { λ r. ⌜ r .has ≡ false ⌝ }
+{
+    let made = sm::new(ComponentList::new(), 0);
+    let machine = made.machine;
+    Kept {
+        has: false,
+        machine: machine,
+    }
 }
 
 // At most 65,536 chunks, so that the program ends whatever it is fed.
@@ -535,6 +747,7 @@ fn main() {
         numbers: [0u64; 2400],
         count: 0,
         number: 0,
+        kept: none_kept(),
     };
     let mut chunk = io::large_buffer();
     let mut turn: usize = 0;

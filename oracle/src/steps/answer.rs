@@ -3,25 +3,17 @@
 use openprot_orchestrator_sm::Orchestrator;
 
 use super::{Answer, Case, Machine};
-use crate::lists::CAPACITY;
 use crate::lists::answer::chain;
+use crate::lists::{CAPACITY, Entry};
 
 /// The least size of the effect buffer that the Rust takes for this capacity.
 const EFFECTS: usize = 2 * CAPACITY + 2;
 
-type Rust = Orchestrator<CAPACITY, EFFECTS>;
+pub type Rust = Orchestrator<CAPACITY, EFFECTS>;
 
 /// The machine and the effects after one step.
 pub fn answer(case: &Case) -> Answer {
-    let machine = &case.machine;
-    let mut rust = Rust::from_parts(
-        chain(&case.entries).expect("an accepted chain"),
-        case.max_retry,
-        machine.state,
-        machine.cursor,
-        &machine.statuses,
-        machine.window,
-    );
+    let mut rust = set_up(&case.entries, case.max_retry, &case.machine);
     let sink = rust.step_once(&case.event);
     Answer {
         machine: read(&rust),
@@ -29,7 +21,20 @@ pub fn answer(case: &Case) -> Answer {
     }
 }
 
-fn read(rust: &Rust) -> Machine {
+/// The Rust's machine for an accepted chain, in this situation.
+pub fn set_up(entries: &[Entry], max_retry: u8, machine: &Machine) -> Rust {
+    Rust::from_parts(
+        chain(entries).expect("an accepted chain"),
+        max_retry,
+        machine.state,
+        machine.cursor,
+        &machine.statuses,
+        machine.window,
+    )
+}
+
+/// What a step may change of the Rust's machine.
+pub fn read(rust: &Rust) -> Machine {
     Machine {
         state: rust.state(),
         cursor: rust.cursor(),

@@ -27,7 +27,7 @@ const FREQUENT_EVENTS: [usize; 5] = [
 ];
 
 /// The number of the boot failure that asks for the policy.
-const DEVICE_FATAL: u16 = 2;
+pub const DEVICE_FATAL: u16 = 2;
 
 /// Endless cases for a seed. The same seed gives the same cases.
 pub fn cases(seed: u64) -> impl Iterator<Item = Case> {
@@ -51,7 +51,7 @@ fn any_case(random: &mut SplitMix64) -> Case {
     }
 }
 
-fn draw_machine(random: &mut SplitMix64, entries: &[Entry]) -> Machine {
+pub fn draw_machine(random: &mut SplitMix64, entries: &[Entry]) -> Machine {
     let mut machine = Machine {
         state: draw_state(random, entries),
         cursor: draw_cursor(random, entries.len()),
@@ -159,7 +159,7 @@ fn draw_cursor(random: &mut SplitMix64, length: usize) -> u8 {
 /// One status for each component. What is drawn for all of them together keeps
 /// chains with no isolated component, with all isolated and without retries
 /// common.
-fn draw_statuses(random: &mut SplitMix64, length: usize) -> Vec<Status> {
+pub fn draw_statuses(random: &mut SplitMix64, length: usize) -> Vec<Status> {
     let isolated_of_4 = random.pick(&[0, 0, 1, 1, 2, 3, 4]);
     let no_retries = random.one_in(3);
     let no_flags = random.one_in(4);
@@ -196,7 +196,7 @@ fn draw_status(random: &mut SplitMix64, isolated_of_4: usize) -> Status {
     }
 }
 
-fn draw_max_retry(random: &mut SplitMix64) -> u8 {
+pub fn draw_max_retry(random: &mut SplitMix64) -> u8 {
     match random.below(8) {
         0..=4 => random.below(5) as u8,
         5 | 6 => u8::MAX,
@@ -204,7 +204,7 @@ fn draw_max_retry(random: &mut SplitMix64) -> u8 {
     }
 }
 
-fn draw_event(random: &mut SplitMix64, entries: &[Entry], machine: &Machine) -> Event {
+pub fn draw_event(random: &mut SplitMix64, entries: &[Entry], machine: &Machine) -> Event {
     let (number, payload) = state_parts(machine.state);
     let name = draw_event_number(random, number.into());
     if NAMING.contains(&name) {
@@ -236,7 +236,7 @@ fn draw_event_number(random: &mut SplitMix64, state: usize) -> usize {
 }
 
 /// The event `name` about `id`; the two values are left out unless it has them.
-fn named_event(name: usize, id: ComponentId, checkpoint: u16, kind: u16) -> Event {
+pub fn named_event(name: usize, id: ComponentId, checkpoint: u16, kind: u16) -> Event {
     let values = if name == BOOT_FAILED {
         [checkpoint, kind]
     } else {
@@ -264,7 +264,7 @@ fn draw_id(
 }
 
 /// An id that is not in the chain. A chain never has all 256.
-fn outside(random: &mut SplitMix64, entries: &[Entry]) -> ComponentId {
+pub fn outside(random: &mut SplitMix64, entries: &[Entry]) -> ComponentId {
     let absent: Vec<ComponentId> = (0..=u8::MAX)
         .map(ComponentId::new)
         .filter(|id| position_of(entries, *id).is_none())
@@ -272,7 +272,7 @@ fn outside(random: &mut SplitMix64, entries: &[Entry]) -> ComponentId {
     random.pick(&absent)
 }
 
-fn draw_checkpoint(random: &mut SplitMix64) -> u16 {
+pub fn draw_checkpoint(random: &mut SplitMix64) -> u16 {
     match random.below(4) {
         0 => random.next_u64() as u16,
         1 => random.pick(&[0, u16::MAX]),

@@ -21,21 +21,31 @@ impl fmt::Display for Case {
 
 impl fmt::Display for Machine {
     fn fmt(&self, f: &mut fmt::Formatter<'_>) -> fmt::Result {
-        let (state, id) = state_parts(self.state);
-        let payload = id.map_or(NO_ID, |id| id.get().into());
-        let window = u8::from(self.window);
-        write!(f, "{state} {payload} {} {window}", self.cursor)?;
-        for status in &self.statuses {
-            let fields = [
-                status.isolated.into(),
-                status.retry.into(),
-                status.awaiting_boot.into(),
-                status.released.into(),
-            ];
-            write_fields(f, fields)?;
-        }
-        Ok(())
+        write_head(f, self)?;
+        write_statuses(f, &self.statuses)
     }
+}
+
+/// Writes `state payload cursor window`.
+pub fn write_head(f: &mut fmt::Formatter<'_>, machine: &Machine) -> fmt::Result {
+    let (state, id) = state_parts(machine.state);
+    let payload = id.map_or(NO_ID, |id| id.get().into());
+    let window = u8::from(machine.window);
+    write!(f, "{state} {payload} {} {window}", machine.cursor)
+}
+
+/// Writes the statuses, each number after a space.
+pub fn write_statuses(f: &mut fmt::Formatter<'_>, statuses: &[Status]) -> fmt::Result {
+    for status in statuses {
+        let fields = [
+            status.isolated.into(),
+            status.retry.into(),
+            status.awaiting_boot.into(),
+            status.released.into(),
+        ];
+        write_fields(f, fields)?;
+    }
+    Ok(())
 }
 
 impl fmt::Display for Answer {
@@ -46,21 +56,20 @@ impl fmt::Display for Answer {
     }
 }
 
-fn write_fields(f: &mut fmt::Formatter<'_>, [a, b, c, d]: [u16; 4]) -> fmt::Result {
+/// Writes the fields, each after a space.
+pub fn write_fields(f: &mut fmt::Formatter<'_>, [a, b, c, d]: [u16; 4]) -> fmt::Result {
     write!(f, " {a} {b} {c} {d}")
 }
 
 /// Reads a line without its byte 10.
 pub fn parse(line: &str) -> Result<Case, String> {
     let numbers = numbers(line)?;
-    let mut fields = Fields { rest: &numbers };
+    let mut fields = Fields::new(&numbers);
     let max_retry = byte(fields.one()?)?;
     let entries = parse_entries(&mut fields)?;
     let machine = parse_machine(&mut fields, &entries)?;
     let event = parse_event(&mut fields)?;
-    if !fields.rest.is_empty() {
-        return Err(format!("{} numbers too many", fields.rest.len()));
-    }
+    fields.end()?;
     Ok(Case {
         max_retry,
         entries,
@@ -70,11 +79,23 @@ pub fn parse(line: &str) -> Result<Case, String> {
 }
 
 /// The numbers that are not read yet.
-struct Fields<'a> {
+pub struct Fields<'a> {
     rest: &'a [u64],
 }
 
 impl<'a> Fields<'a> {
+    pub fn new(numbers: &'a [u64]) -> Self {
+        Self { rest: numbers }
+    }
+
+    /// No number is left.
+    pub fn end(&self) -> Result<(), String> {
+        match self.rest.len() {
+            0 => Ok(()),
+            left => Err(format!("{left} numbers too many")),
+        }
+    }
+
     fn take(&mut self, count: usize) -> Result<&'a [u64], String> {
         let (taken, rest) = self
             .rest
@@ -102,7 +123,7 @@ fn parse_entries(fields: &mut Fields) -> Result<Vec<Entry>, String> {
     }
 }
 
-fn parse_machine(fields: &mut Fields, entries: &[Entry]) -> Result<Machine, String> {
+pub fn parse_machine(fields: &mut Fields, entries: &[Entry]) -> Result<Machine, String> {
     let head = fields.take(4)?;
     let payload = optional_id(head[1])?;
     if let Some(id) = payload
@@ -135,7 +156,7 @@ fn parse_status(fields: &[u64]) -> Result<Status, String> {
     })
 }
 
-fn parse_event(fields: &mut Fields) -> Result<Event, String> {
+pub fn parse_event(fields: &mut Fields) -> Result<Event, String> {
     let mut values = [0; 4];
     for (value, field) in values.iter_mut().zip(fields.take(4)?) {
         *value = u16::try_from(*field).map_err(|_| format!("{field} is above 65535"))?;

@@ -1,15 +1,16 @@
--- `feed` is safe and ends: the chunk is what bounds it.
+-- `feed` is safe and ends: the chunk is what bounds it. The machine at hand stays valid.
 use borrow.Author.Needs.{needs}
 use Prim.Native.Nat.{_-_, _≤_}
 use lib.ListN.{length}
+use Rattle.steps.specs.Hand.{Callable}
 use Rattle.steps.proofs.feed.Statement.{statement}
 use Rattle.steps.proofs.feed.Tie as tie
 
 abbrev Inv-loop : tie.InvT-loop
-Inv-loop chunk at₀ i₀ at i = i ≤ length chunk
+Inv-loop chunk at₀ kept₀ i₀ at kept i = (i ≤ length chunk) × Callable kept
 
 abbrev μ-loop : tie.MeasureT-loop
-μ-loop chunk at₀ i₀ at i = length chunk - i
+μ-loop chunk at₀ kept₀ i₀ at kept i = length chunk - i
 
 loop-holds : tie.Need-loop-holds Inv-loop μ-loop
 loop-holds c = search needs

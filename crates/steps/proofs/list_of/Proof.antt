@@ -5,10 +5,10 @@ use Rattle.steps.proofs.list_of.Statement.{statement}
 use Rattle.steps.proofs.list_of.Tie as tie
 
 abbrev Inv-loop : tie.InvT-loop
-Inv-loop ns n list₀ k₀ list k = k ≤ n
+Inv-loop ns i n list₀ k₀ list k = k ≤ n
 
 abbrev μ-loop : tie.MeasureT-loop
-μ-loop ns n list₀ k₀ list k = n - k
+μ-loop ns i n list₀ k₀ list k = n - k
 
 number-at-requires : tie.Need-number-at-requires Inv-loop μ-loop
 number-at-requires c κs = search needs
@@ -22,11 +22,14 @@ new-requires c κs = search needs
 loop-holds : tie.Need-loop-holds Inv-loop μ-loop
 loop-holds c = search needs
 
+add-component-at : tie.Need-add-component-at Inv-loop μ-loop
+add-component-at c = search needs
+
 mul-component-at : tie.Need-mul-component-at Inv-loop μ-loop
 mul-component-at c = search needs
 
-add-component-at : tie.Need-add-component-at Inv-loop μ-loop
-add-component-at c = search needs
+add-component-at-2 : tie.Need-add-component-at-2 Inv-loop μ-loop
+add-component-at-2 c = search needs
 
 component-at-requires : tie.Need-component-at-requires Inv-loop μ-loop
 component-at-requires c κs = search needs
@@ -56,8 +59,9 @@ list-of-spec =
     up-to-requires
     new-requires
     loop-holds
-    mul-component-at
     add-component-at
+    mul-component-at
+    add-component-at-2
     component-at-requires
     push-requires
     add-k

@@ -1,22 +1,27 @@
--- `main` is safe and ends: it reads a bounded number of chunks.
+-- `main` is safe and ends: it reads a bounded number of chunks. At first no machine is at hand.
 use borrow.Author.Needs.{needs}
-use mathlib.Core.Path.{_≡_}
+use mathlib.Core.Path.{_≡_, sym, _∙_}
 use Prim.Native.Nat.{_-_, _≤_}
 use lib.ListN.{length}
+use Rattle.steps.specs.Hand.{Callable}
+use Rattle.settling.proofs.Views.{never}
 use Rattle.steps.proofs.main.Statement.{statement}
 use Rattle.steps.proofs.main.Tie as tie
 
 abbrev Inv-loop : tie.InvT-loop
-Inv-loop line₀ chunk₀ turn₀ line chunk turn = (length chunk ≡ 65536) × (turn ≤ 65536)
+Inv-loop line₀ chunk₀ turn₀ line chunk turn = (length chunk ≡ 65536) × (turn ≤ 65536) × Callable (line .kept)
 
 abbrev μ-loop : tie.MeasureT-loop
 μ-loop line₀ chunk₀ turn₀ line chunk turn = 65536 - turn
+
+none-kept-requires : tie.Need-none-kept-requires Inv-loop μ-loop
+none-kept-requires c κs = search needs
 
 large-buffer-requires : tie.Need-large-buffer-requires Inv-loop μ-loop
 large-buffer-requires c κs = search needs
 
 loop-holds : tie.Need-loop-holds Inv-loop μ-loop
-loop-holds c = search needs
+loop-holds c = (search needs, search needs, λ h. never (sym (c .before .none-kept .ensures) ∙ h))
 
 slice-aggregate-read-full : tie.Need-slice-aggregate-read-full Inv-loop μ-loop
 slice-aggregate-read-full c = search needs
@@ -54,6 +59,7 @@ main-spec =
     (tie.spec
     Inv-loop
     μ-loop
+    none-kept-requires
     large-buffer-requires
     loop-holds
     slice-aggregate-read-full

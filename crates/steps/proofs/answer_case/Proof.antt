@@ -1,4 +1,4 @@
--- `answer` meets what `step` requires: the list was accepted, so the chain is sound, and the machine fits it.
+-- `answer_case` meets what `step` requires: the list was accepted, so the chain is sound, and the machine fits it.
 use mathlib.Core.Path.{_≡_, refl, sym, _∙_, subst}
 use mathlib.Core.Bool.{false}
 use Prim.Native.Nat.{ℕ}
@@ -13,8 +13,8 @@ use Rattle.chain.specs.Tables.{entries}
 use Rattle.chain.specs.Filled.{ChartOf}
 use Rattle.entry.proofs.Compose.{fit-at}
 use borrow.Author.Needs.{needs}
-use Rattle.steps.proofs.answer.Statement.{statement}
-use Rattle.steps.proofs.answer.Tie as tie
+use Rattle.steps.proofs.answer_case.Statement.{statement}
+use Rattle.steps.proofs.answer_case.Tie as tie
 
 not-refused : (v : Verdict) → refuses v ≡ false → v ≡ Accepted
 not-refused Accepted e = refl
@@ -35,8 +35,11 @@ verdict-requires c κs = search needs
 is-refused-requires : tie.Need-is-refused-requires
 is-refused-requires c κs = search needs
 
-write-refusal-requires : tie.Need-write-refusal-requires
-write-refusal-requires c κs = search needs
+answer-requires : tie.Need-answer-requires
+answer-requires c κs = search needs
+
+write-answer-requires : tie.Need-write-answer-requires
+write-answer-requires c κs = search needs
 
 returns : tie.Need-returns
 returns c = search needs
@@ -96,14 +99,15 @@ write-machine-requires c κs = search needs
 returns-2 : tie.Need-returns-2
 returns-2 c = search needs
 
-pub answer-spec : {M : Type 1} → statement M
-answer-spec =
+pub answer-case-spec : {M : Type 1} → statement M
+answer-case-spec =
     tie.close
     (tie.spec
     list-of-requires
     verdict-requires
     is-refused-requires
-    write-refusal-requires
+    answer-requires
+    write-answer-requires
     returns
     of-requires
     count-requires

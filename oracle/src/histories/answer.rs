@@ -1,0 +1,317 @@
+//! The oracle's answers to a history: each event that is begun is one call of
+//! the Rust's `dispatch_with`, whose callback gives the replies that follow.
+
+use openprot_orchestrator_sm::{Effect, EffectError, Event};
+
+use super::stepwise::Stepwise;
+use super::{Answer, Answers, Call, Called, History, Reply};
+use crate::lists::answer::{Answer as Verdict, answer as verdict, chain};
+use crate::lists::{Entry, List};
+use crate::steps::answer::{Rust, answer as step_answer, read, set_up};
+use crate::steps::{Case, Machine};
+
+/// The answers to a history.
+pub fn answer(history: &History) -> Answers {
+    let mut run = Run {
+        rest: &history.calls,
+        answers: Vec::new(),
+        corners: Vec::new(),
+    };
+    let mut at_hand = None;
+    while let Some(call) = run.next() {
+        match call {
+            Call::Step(case) => run.step(case),
+            Call::New { max_retry, list } => at_hand = run.make(*max_retry, list),
+            _ => match &mut at_hand {
+                None => run.no_machine(),
+                Some(machine) => run.call(call, machine),
+            },
+        }
+    }
+    if let Some(machine) = at_hand {
+        run.corners.extend(machine.stepwise.into_corners());
+    }
+    Answers {
+        answers: run.answers,
+        corners: run.corners,
+    }
+}
+
+/// The Rust's machine, and beside it the one that is asked call by call.
+struct AtHand {
+    entries: Vec<Entry>,
+    max_retry: u8,
+    rust: Rust,
+    stepwise: Stepwise,
+}
+
+/// The calls that are not answered yet, and the answers so far.
+struct Run<'a> {
+    rest: &'a [Call],
+    answers: Vec<Answer>,
+    corners: Vec<String>,
+}
+
+impl<'a> Run<'a> {
+    fn next(&mut self) -> Option<&'a Call> {
+        let (call, rest) = self.rest.split_first()?;
+        self.rest = rest;
+        Some(call)
+    }
+
+    fn mark(&mut self, name: &str) {
+        self.corners.push(name.into());
+    }
+
+    fn step(&mut self, case: &Case) {
+        self.mark("one_step_between_calls");
+        self.answers.push(Answer::Step(step_answer(case)));
+    }
+
+    fn no_machine(&mut self) {
+        self.mark("no_machine");
+        self.answers.push(Answer::NoMachine);
+    }
+
+    fn called(&mut self, number: u8, effect: Option<Effect>, machine: Machine) {
+        self.answers.push(Answer::Called(Called {
+            number,
+            effect,
+            machine,
+        }));
+    }
+
+    /// The machine of a list, if it is accepted.
+    fn make(&mut self, max_retry: u8, list: &List) -> Option<AtHand> {
+        let answer = verdict(list);
+        self.answers.push(Answer::New(answer));
+        if answer != Verdict::ACCEPTED {
+            self.mark("new_refused");
+            return None;
+        }
+        self.mark("new_accepted");
+        let new = || Rust::new(chain(&list.entries).expect("an accepted chain"), max_retry);
+        Some(AtHand {
+            entries: list.entries.clone(),
+            max_retry,
+            rust: new(),
+            stepwise: Stepwise::new(new(), &list.entries),
+        })
+    }
+
+    /// A call while no effect waits.
+    fn call(&mut self, call: &Call, at_hand: &mut AtHand) {
+        match call {
+            Call::Begin(event) => self.dispatch(*event, at_hand),
+            Call::Reply(reply) => {
+                let number = at_hand.stepwise.reply(*reply);
+                assert_eq!(number, 7, "nothing waits");
+                self.called(number, None, read(&at_hand.rust));
+            }
+            Call::SetUp(machine) => {
+                let new = || set_up(&at_hand.entries, at_hand.max_retry, machine);
+                at_hand.stepwise.set_up(new());
+                at_hand.rust = new();
+                self.called(0, None, read(&at_hand.rust));
+            }
+            Call::Step(_) | Call::New { .. } => unreachable!("answered without a machine"),
+        }
+    }
+
+    /// An event, with the replies to its effects.
+    fn dispatch(&mut self, event: Event, at_hand: &mut AtHand) {
+        let AtHand { rust, stepwise, .. } = at_hand;
+        let mut unfinished = false;
+        assert_eq!(stepwise.begin(event), 0, "nothing waits");
+        rust.dispatch_with(event, |effect| {
+            // The calls have ended: what the Rust makes of the rest is not asked.
+            if unfinished {
+                return Ok(None);
+            }
+            assert_eq!(stepwise.waiting(), Some(effect), "the Rust's effect");
+            self.called(0, Some(effect), stepwise.machine());
+            let reply = self.reply_to(effect, stepwise);
+            unfinished = reply.is_none();
+            reply.unwrap_or(Ok(None))
+        });
+        if unfinished {
+            stepwise.leave();
+            return;
+        }
+        assert_eq!(stepwise.waiting(), None, "the Rust has no effect left");
+        assert_eq!(stepwise.machine(), read(rust), "the Rust's machine");
+        self.called(0, None, read(rust));
+    }
+
+    /// The next reply. Calls before it that are no reply are answered; none is
+    /// given where the machine at hand is asked no more.
+    fn reply_to(
+        &mut self,
+        effect: Effect,
+        stepwise: &mut Stepwise,
+    ) -> Option<Result<Option<Event>, EffectError>> {
+        loop {
+            match self.rest.first()? {
+                Call::SetUp(_) | Call::New { .. } => return None,
+                Call::Step(case) => self.step(case),
+                Call::Begin(event) => {
+                    let number = stepwise.begin(*event);
+                    assert_eq!(number, 10, "an effect waits");
+                    self.called(number, Some(effect), stepwise.machine());
+                }
+                Call::Reply(reply) => {
+                    self.next();
+                    return Some(give(*reply, stepwise));
+                }
+            }
+            self.next();
+        }
+    }
+}
+
+fn give(reply: Reply, stepwise: &mut Stepwise) -> Result<Option<Event>, EffectError> {
+    assert_eq!(stepwise.reply(reply), 0, "an effect waits");
+    reply.result()
+}
+
+#[cfg(test)]
+mod tests {
+    use std::panic::{AssertUnwindSafe, catch_unwind, resume_unwind};
+
+    use super::super::generate::histories;
+    use super::super::line::parse;
+    use super::*;
+
+    fn answers(text: &str) -> Vec<String> {
+        let answers = answer(&parse(text).unwrap()).to_string();
+        answers.split('\n').map(String::from).collect()
+    }
+
+    /// The effects that the answers give, without their values.
+    fn effects(text: &str) -> Vec<u16> {
+        answers(text)
+            .iter()
+            .skip(1)
+            .map(|line| line.split(' ').nth(1).unwrap().parse().unwrap())
+            .collect()
+    }
+
+    /// The sheet of document 01, section 5, with a refused begin and a refused
+    /// reply.
+    #[test]
+    fn the_sheet_of_document_01() {
+        let text = "256 2 1 7 0 0 0 256\n257 0 0 0 0\n257 5 0 0 0\n258\n258\n258\n257 1 7 0 0\n258";
+        let expected = [
+            "0 0 0",
+            "0 0 7 0 0 1 256 0 0 0",
+            "10 0 7 0 0 1 256 0 0 0",
+            "0 1 7 0 0 1 256 0 0 0",
+            "0 18 0 0 0 1 256 0 0 0 0 0 0 0 0 0 0 0",
+            "7 18 0 0 0 1 256 0 0 0 0 0 0 0 0 0 0 0",
+            "0 2 7 0 0 3 256 1 0 0",
+            "0 18 0 0 0 3 256 1 0 0 0 0 0 0 0 0 1 1",
+        ];
+        assert_eq!(answers(text), expected);
+    }
+
+    #[test]
+    fn without_a_machine_there_is_nothing_to_call() {
+        assert_eq!(answers("257 0 0 0 0\n258"), ["99", "99"]);
+        assert_eq!(answers("256 2 0\n260"), ["2 0 0", "99"]);
+    }
+
+    #[test]
+    fn a_failure_latches_and_a_later_one_only_ends_its_batch() {
+        let text = "256 2 1 7 0 0 0 256\n257 0 0 0 0\n260\n260";
+        // ReadFirmware fails, LatchLockdown fails, the end.
+        assert_eq!(effects(text), [0, 16, 18]);
+    }
+
+    /// Components 1 Required, 2 Cascading with 3, 4 and 5 on it: the cascade
+    /// has eight effects. Verification of 1 fails and its recovery is
+    /// unavailable, each under a full queue.
+    #[test]
+    fn emit_that_finds_8_queued_locks() {
+        let head = "256 2 5 1 0 0 0 256 2 0 2 0 256 3 0 0 0 2 4 0 0 0 2 5 0 0 0 2";
+        let fill = "\n259 16 0 0 0".repeat(6);
+        let text = format!(
+            "{head}\n257 0 0 0 0\n258\n258\n257 10 2 0 0\n\
+             259 2 1 0 0\n259 12 1 0 0{fill}\n259 16 0 0 0\n259 16 0 0 0\n258"
+        );
+        let expected = [0, 1, 18, 3, 11, 3, 11, 3, 11, 3, 11, 10, 12, 16, 18];
+        assert_eq!(effects(&text), expected);
+        let corners = answer(&parse(&text).unwrap()).corners;
+        let count = |name: &str| corners.iter().filter(|corner| *corner == name).count();
+        assert_eq!(count("emit_found_8_queued"), 1);
+        assert_eq!(count("newest_put_out"), 1);
+        assert_eq!(count("effect_failed_locks"), 1);
+        assert_eq!(count("call_settled_7"), 1);
+    }
+
+    #[test]
+    fn a_machine_is_set_up_while_an_effect_waits() {
+        let text = "256 2 1 7 0 0 0 256\n257 0 0 0 0\n261 2 7 1 0 0 0 1 1\n257 3 7 0 0";
+        let expected = [
+            "0 0 0",
+            "0 0 7 0 0 1 256 0 0 0",
+            "0 18 0 0 0 2 7 1 0 0 0 0 0 0 0 0 1 1",
+            "0 18 0 0 0 3 256 1 0 0 0 0 0 0 0 0 0 1",
+        ];
+        assert_eq!(answers(text), expected);
+        let corners = answer(&parse(text).unwrap()).corners;
+        assert!(corners.contains(&"set_up_component_ready_gives_ready".to_string()));
+        assert!(!corners.contains(&"component_ready_gives_ready".to_string()));
+    }
+
+    /// The machine while an effect waits, from `dispatch_with` itself: it is
+    /// left from within the callback at the last of the replies.
+    fn left_at(mut rust: Rust, event: Event, replies: &[Reply]) -> Machine {
+        let mut rest = replies.iter();
+        let left = catch_unwind(AssertUnwindSafe(|| {
+            rust.dispatch_with(event, |_| match rest.next() {
+                Some(reply) => reply.result(),
+                None => resume_unwind(Box::new(())),
+            });
+        }));
+        assert!(left.is_err(), "an effect waits");
+        read(&rust)
+    }
+
+    /// The machines that the answers show while an effect waits are those that
+    /// `dispatch_with` has at that effect.
+    #[test]
+    fn the_machine_while_an_effect_waits_is_that_of_the_rust() {
+        let mut compared = 0;
+        for history in histories(5).take(400) {
+            let Some(Call::New { max_retry, list }) = history.calls.first() else {
+                continue;
+            };
+            if list.entries.len() > 12 || verdict(list) != Verdict::ACCEPTED {
+                continue;
+            }
+            let start = read(&Rust::new(chain(&list.entries).unwrap(), *max_retry));
+            let (mut before, mut begun, mut replies) = (start, None, Vec::new());
+            let answers = answer(&history).answers;
+            for (call, answer) in history.calls.iter().zip(answers) {
+                let Answer::Called(called) = answer else {
+                    continue;
+                };
+                match call {
+                    Call::Begin(event) if called.number == 0 => begun = Some(*event),
+                    Call::Reply(reply) if called.number == 0 => replies.push(*reply),
+                    _ => {}
+                }
+                if called.effect.is_some() {
+                    let rust = set_up(&list.entries, *max_retry, &before);
+                    let left = left_at(rust, begun.unwrap(), &replies);
+                    assert_eq!(called.machine, left);
+                    compared += 1;
+                } else {
+                    before = called.machine;
+                    replies.clear();
+                }
+            }
+        }
+        assert!(compared > 2_000, "{compared}");
+    }
+}

@@ -1,0 +1,258 @@
+//! The corners of settling that a comparison has to reach, and how one taken
+//! event or one ended dispatch is named by them.
+
+use openprot_orchestrator_sm::{ComponentId, Effect, Event, State};
+
+use crate::lists::LONGEST;
+use crate::steps::Machine;
+use crate::steps::numbers::{EVENTS, STATES, effect_fields, event_fields, state_parts};
+use crate::steps::rules::{NAMING, RULES};
+
+/// The effects that are handed out: all but Emit.
+const HANDED: usize = 17;
+
+/// The most events that one call settles, by section 4 of document 01.
+const MOST_IN_A_CALL: usize = 8;
+
+/// Corners with a name of their own.
+const NAMED: [&str; 40] = [
+    "no_machine",
+    "new_accepted",
+    "new_refused",
+    "one_step_between_calls",
+    "dispatch_left_unfinished",
+    "chain_of_1",
+    "chain_of_255",
+    "begun_with_a_rule",
+    "begun_without_a_rule",
+    "begun_about_an_id_outside",
+    "refused_begin",
+    "refused_reply_done",
+    "refused_reply_then",
+    "refused_reply_failed",
+    "replied_done",
+    "replied_then",
+    "replied_failed",
+    "queue_filled",
+    "reply_found_8_queued",
+    "emit_queued",
+    "emit_found_8_queued",
+    "newest_put_out",
+    "first_failure_with_effects_left",
+    "first_failure_at_the_last_effect",
+    "first_failure_queue_empty",
+    "first_failure_queue_of_1_to_7",
+    "first_failure_queue_full",
+    "second_failure",
+    "effect_failed_locks",
+    "effect_failed_in_locked",
+    "drained_in_locked",
+    "verdict_fed_back_and_passed",
+    "verdict_fed_back_and_failed",
+    "restore_fed_back",
+    "update_verdict_fed_back",
+    "boot_report_fed_back",
+    "emitted_recovery_failed_locks",
+    "emitted_recovery_failed_does_nothing",
+    "dispatch_over_8_events",
+    "handed_past_place_256",
+];
+
+/// No history reaches these; docs/TESTING.md says why. A history that does is
+/// a failure of the comparison.
+pub const NEVER: [&str; 6] = [
+    "lost_after_a_failure",
+    "second_failure_with_effects_left",
+    "third_failure",
+    "call_settled_over_8",
+    READY_BY_COMPONENT_READY,
+    WALK_AT_AN_ISOLATED_ONE,
+];
+
+const READY_BY_COMPONENT_READY: &str = "component_ready_gives_ready";
+const WALK_AT_AN_ISOLATED_ONE: &str = "walk_at_an_isolated_one";
+const RETRY_STOPS: &str = "retry_stops_at_255";
+
+/// Reached from set-up machines.
+pub const SET_UP: [&str; 3] = [
+    READY_BY_COMPONENT_READY,
+    WALK_AT_AN_ISOLATED_ONE,
+    RETRY_STOPS,
+];
+
+/// The corners that histories have to reach.
+pub fn names() -> Vec<String> {
+    let numbered = |name: &str, count| {
+        let name = name.to_string();
+        (0..count).map(move |number| format!("{name}_{number}"))
+    };
+    let states = (0..STATES).map(|number| format!("ended_in_{number}"));
+    let mut names: Vec<String> = NAMED.map(String::from).to_vec();
+    names.extend(numbered("begun", EVENTS));
+    names.extend(numbered("replied_then", EVENTS));
+    names.extend(numbered("handed", HANDED));
+    names.extend(numbered("call_settled", MOST_IN_A_CALL + 1));
+    names.extend(states);
+    names.push("ended_in_2_awaiting_none".into());
+    names
+}
+
+/// Where a queued event came from.
+#[derive(Clone, Copy, PartialEq, Eq, Debug)]
+pub enum Origin {
+    Begun,
+    /// The reply to this effect.
+    Fed(Effect),
+    Emitted,
+    /// The first failure of the dispatch.
+    Latched,
+}
+
+pub fn number_of(event: &Event) -> u16 {
+    event_fields(event)[0]
+}
+
+/// An event that is begun in this state, on a chain with these ids.
+pub fn begun(event: &Event, state: State, ids: &[ComponentId]) -> Vec<String> {
+    let [number, id, ..] = event_fields(event);
+    let name = usize::from(number);
+    let rules = RULES[usize::from(state_parts(state).0)];
+    let inside = ids.iter().any(|present| u16::from(present.get()) == id);
+    let kind = if !rules.contains(&name) {
+        "begun_without_a_rule"
+    } else if NAMING.contains(&name) && !inside {
+        "begun_about_an_id_outside"
+    } else {
+        "begun_with_a_rule"
+    };
+    vec![format!("begun_{number}"), kind.into()]
+}
+
+pub fn handed(effect: &Effect) -> String {
+    format!("handed_{}", effect_fields(effect)[0])
+}
+
+/// One event that was taken from the queue and stepped.
+pub struct Taken<'a> {
+    pub event: Event,
+    pub origin: Origin,
+    pub before: &'a Machine,
+    pub after: &'a Machine,
+    pub effects: &'a [Effect],
+}
+
+pub fn taken(taken: &Taken) -> Vec<String> {
+    let mut names: Vec<&str> = Vec::new();
+    names.extend(by_origin(taken));
+    if taken.before.state == State::Locked && taken.origin != Origin::Begun {
+        names.push("drained_in_locked");
+    }
+    names.extend(set_up_corners(taken));
+    names.into_iter().map(String::from).collect()
+}
+
+fn by_origin(taken: &Taken) -> Option<&'static str> {
+    let locks = taken.before.state != State::Locked && taken.after.state == State::Locked;
+    match taken.origin {
+        Origin::Begun => None,
+        Origin::Latched if locks => Some("effect_failed_locks"),
+        Origin::Latched => Some("effect_failed_in_locked"),
+        Origin::Emitted if locks => Some("emitted_recovery_failed_locks"),
+        Origin::Emitted => Some("emitted_recovery_failed_does_nothing"),
+        Origin::Fed(effect) => fed_back(taken, effect),
+    }
+}
+
+/// A report that an effect asks for, fed back and settled by a rule.
+fn fed_back(taken: &Taken, effect: Effect) -> Option<&'static str> {
+    let settled = taken.before != taken.after || !taken.effects.is_empty();
+    if !settled {
+        return None;
+    }
+    match (effect, taken.event) {
+        (Effect::VerifyFirmware(id), Event::VerificationPassed(of)) if id == of => {
+            Some("verdict_fed_back_and_passed")
+        }
+        (Effect::VerifyFirmware(id), Event::VerificationFailed(of)) if id == of => {
+            Some("verdict_fed_back_and_failed")
+        }
+        (
+            Effect::RecoverComponent { id, .. },
+            Event::Restored(of) | Event::RecoveryUnavailable(of),
+        ) if id == of => Some("restore_fed_back"),
+        (
+            Effect::AuthenticateUpdate | Effect::StageUpdate,
+            Event::UpdateVerified | Event::UpdateRejected,
+        ) => Some("update_verdict_fed_back"),
+        (
+            Effect::ReleaseReset(id),
+            Event::Booted(of) | Event::Timeout(of) | Event::BootFailed { id: of, .. },
+        ) if id == of => Some("boot_report_fed_back"),
+        _ => None,
+    }
+}
+
+fn set_up_corners(taken: &Taken) -> Vec<&'static str> {
+    let before = taken.before;
+    let at_cursor = before.statuses.get(usize::from(before.cursor));
+    let walking = matches!(
+        before.state,
+        State::PreSupervision | State::AwaitingReady(_)
+    );
+    [
+        (READY_BY_COMPONENT_READY, becomes_ready(taken)),
+        (
+            WALK_AT_AN_ISOLATED_ONE,
+            walking && at_cursor.is_some_and(|status| status.isolated),
+        ),
+        (RETRY_STOPS, retry_stops(taken)),
+    ]
+    .into_iter()
+    .filter(|(_, reached)| *reached)
+    .map(|(name, _)| name)
+    .collect()
+}
+
+fn becomes_ready(taken: &Taken) -> bool {
+    matches!(taken.event, Event::ComponentReady(_))
+        && matches!(taken.before.state, State::AwaitingReady(_))
+        && taken.after.state == State::Ready
+}
+
+/// A Required component is restored and reported, and its retry does not
+/// change: it is 255.
+fn retry_stops(taken: &Taken) -> bool {
+    let restored = |failed: ComponentId| taken.event == Event::Restored(failed);
+    let emits = taken.effects.contains(&Effect::Emit(Event::RecoveryFailed));
+    matches!(taken.before.state, State::Recovering(failed) if restored(failed))
+        && emits
+        && taken.before.statuses == taken.after.statuses
+}
+
+/// A call that settled this many events.
+pub fn call_settled(events: usize) -> String {
+    if events > MOST_IN_A_CALL {
+        "call_settled_over_8".into()
+    } else {
+        format!("call_settled_{events}")
+    }
+}
+
+/// A dispatch that took `events` events ended with this machine.
+pub fn ended(machine: &Machine, events: usize) -> Vec<String> {
+    let (state, _) = state_parts(machine.state);
+    let mut names = vec![format!("ended_in_{state}")];
+    if machine.state == State::AwaitingReady(None) {
+        names.push("ended_in_2_awaiting_none".into());
+    }
+    for (name, reached) in [
+        ("dispatch_over_8_events", events > MOST_IN_A_CALL),
+        ("chain_of_1", machine.statuses.len() == 1),
+        ("chain_of_255", machine.statuses.len() == LONGEST),
+    ] {
+        if reached {
+            names.push(name.into());
+        }
+    }
+    names
+}

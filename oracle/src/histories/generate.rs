@@ -1,0 +1,126 @@
+//! Generated histories. Each scene serves one part of the comparison; the
+//! weights keep most histories short and still reach every corner often enough.
+
+use openprot_orchestrator_sm::{ComponentId, State};
+
+use super::History;
+use super::scenes::{
+    cascade_flood, drained, exhausted_under_flood, in_service, large, refused_list,
+    set_up_machines, without_machine,
+};
+use super::writer::{MOODS, Mood, Writer};
+use crate::lists::Entry;
+use crate::lists::generate::accepted;
+use crate::random::SplitMix64;
+use crate::steps::generate::draw_max_retry;
+
+/// A usual history ends after this many calls, or a few after it has locked.
+const CALLS: usize = 120;
+const AFTER_LOCKED: usize = 3;
+
+/// Endless histories for a seed. The same seed gives the same histories. The
+/// first one has no machine; every other one begins with its own.
+pub fn histories(seed: u64) -> impl Iterator<Item = History> {
+    let mut random = SplitMix64::new(seed);
+    let first = without_machine(&mut random);
+    std::iter::once(first).chain(std::iter::repeat_with(move || draw_history(&mut random)))
+}
+
+fn draw_history(random: &mut SplitMix64) -> History {
+    match random.below(1_000) {
+        0 => large(random),
+        1..=60 => set_up_machines(random),
+        61..=150 => refused_list(random),
+        151..=350 => exhausted_under_flood(random),
+        351..=490 => cascade_flood(random),
+        491..=720 => drained(random),
+        721..=840 => in_service(random),
+        _ => usual(random),
+    }
+}
+
+/// A short chain, led on from state to state, with everything strewn in.
+fn usual(random: &mut SplitMix64) -> History {
+    let length = match random.below(20) {
+        0 => random.between(7, 40),
+        1..=4 => random.between(4, 6),
+        _ => random.between(1, 4),
+    };
+    let entries = accepted(random, length);
+    let max_retry = draw_max_retry(random);
+    let mut writer = Writer::new(random, entries, max_retry);
+    let mut locked = 0;
+    while writer.calls() < CALLS && locked < AFTER_LOCKED {
+        if writer.machine.state() == State::Locked {
+            locked += 1;
+        }
+        // Now and then the next machine is made while an effect waits.
+        if writer.random.one_in(16) {
+            let event = writer.apt_event();
+            writer.begin(event);
+            break;
+        }
+        turn(&mut writer);
+    }
+    writer.finish()
+}
+
+/// One dispatch, or a call that is refused.
+fn turn(writer: &mut Writer) {
+    match writer.random.below(20) {
+        0..=3 => writer.strew(),
+        4..=7 => {
+            let (event, mood) = (writer.any_event(), draw_mood(writer.random));
+            writer.dispatch(event, mood);
+        }
+        _ => {
+            let (event, mood) = (writer.apt_event(), draw_mood(writer.random));
+            writer.dispatch(event, mood);
+        }
+    }
+}
+
+/// Most dispatches go well, so that a history gets somewhere.
+fn draw_mood(random: &mut SplitMix64) -> Mood {
+    match random.below(12) {
+        0..=4 => Mood::Calm,
+        5..=8 => Mood::Reporting,
+        _ => random.pick(&MOODS),
+    }
+}
+
+/// The ids of a chain.
+pub fn ids(entries: &[Entry]) -> Vec<ComponentId> {
+    entries.iter().map(|(id, _)| *id).collect()
+}
+
+#[cfg(test)]
+mod tests {
+    use super::super::Call;
+    use super::super::line::parse;
+    use super::*;
+
+    #[test]
+    fn the_seed_decides() {
+        let first: Vec<History> = histories(7).take(50).collect();
+        let again: Vec<History> = histories(7).take(50).collect();
+        let other: Vec<History> = histories(8).take(50).collect();
+        assert_eq!(first, again);
+        assert_ne!(first, other);
+    }
+
+    #[test]
+    fn generated_histories_read_back() {
+        for history in histories(3).take(500) {
+            assert_eq!(parse(&history.to_string()), Ok(history));
+        }
+    }
+
+    #[test]
+    fn all_but_the_first_begin_with_a_machine() {
+        for (index, history) in histories(3).take(500).enumerate() {
+            let begins = matches!(history.calls[0], Call::New { .. });
+            assert_eq!(begins, index > 0);
+        }
+    }
+}

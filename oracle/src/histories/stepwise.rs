@@ -1,0 +1,261 @@
+//! A machine that is asked call by call. `dispatch_with` runs to its end and
+//! shows neither its queue nor the machine while an effect waits; this one
+//! does. It takes every step by the Rust's own `step`, and only the queue is
+//! written here. `answer` holds its effects and its machines to those of
+//! `dispatch_with`, so that a queue that is not the Rust's ends the run.
+
+use std::collections::VecDeque;
+
+use openprot_orchestrator_sm::{ComponentId, Effect, Event, State};
+
+use super::Reply;
+use super::corners::{Origin, SET_UP, Taken, begun, call_settled, ended, handed, number_of, taken};
+use crate::lists::Entry;
+use crate::steps::Machine;
+use crate::steps::answer::{Rust, read};
+
+/// The events that the Rust's queue holds.
+pub const QUEUE: usize = 8;
+
+/// The effects of a batch from this place on are counted apart.
+const FAR: usize = 256;
+
+pub struct Stepwise {
+    rust: Rust,
+    ids: Vec<ComponentId>,
+    queue: VecDeque<(Event, Origin)>,
+    /// The effects of the batch that are not handed out yet, and how many were.
+    batch: VecDeque<Effect>,
+    place: usize,
+    waiting: Option<Effect>,
+    failures: usize,
+    /// The events taken in this dispatch, and those taken in this call.
+    dispatch_taken: usize,
+    call_taken: usize,
+    /// Whether the machine was set up, and not led to by a history.
+    set_up: bool,
+    corners: Vec<String>,
+}
+
+impl Stepwise {
+    /// A machine for the entries, with nothing waiting or queued.
+    pub fn new(rust: Rust, entries: &[Entry]) -> Self {
+        Self {
+            rust,
+            ids: entries.iter().map(|(id, _)| *id).collect(),
+            queue: VecDeque::new(),
+            batch: VecDeque::new(),
+            place: 0,
+            waiting: None,
+            failures: 0,
+            dispatch_taken: 0,
+            call_taken: 0,
+            set_up: false,
+            corners: Vec::new(),
+        }
+    }
+
+    /// The same machine in another situation, with nothing waiting or queued.
+    pub fn set_up(&mut self, rust: Rust) {
+        *self = Self {
+            ids: std::mem::take(&mut self.ids),
+            set_up: true,
+            corners: std::mem::take(&mut self.corners),
+            ..Self::new(rust, &[])
+        };
+    }
+
+    pub fn machine(&self) -> Machine {
+        read(&self.rust)
+    }
+
+    pub fn state(&self) -> State {
+        self.rust.state()
+    }
+
+    pub fn waiting(&self) -> Option<Effect> {
+        self.waiting
+    }
+
+    pub fn queued(&self) -> usize {
+        self.queue.len()
+    }
+
+    pub fn into_corners(self) -> Vec<String> {
+        self.corners
+    }
+
+    /// No call follows, though an effect waits.
+    pub fn leave(&mut self) {
+        self.mark("dispatch_left_unfinished");
+    }
+
+    /// Document 01's number for `begin`.
+    pub fn begin(&mut self, event: Event) -> u8 {
+        if self.waiting.is_some() {
+            self.mark("refused_begin");
+            return 10;
+        }
+        for name in begun(&event, self.state(), &self.ids) {
+            self.mark(&name);
+        }
+        self.queue.push_back((event, Origin::Begun));
+        self.settle();
+        0
+    }
+
+    /// Document 01's number for `reply`.
+    pub fn reply(&mut self, reply: Reply) -> u8 {
+        let name = match reply {
+            Reply::Done => "done",
+            Reply::Then(_) => "then",
+            Reply::Failed => "failed",
+        };
+        let Some(effect) = self.waiting.take() else {
+            self.mark(&format!("refused_reply_{name}"));
+            return 7;
+        };
+        self.mark(&format!("replied_{name}"));
+        match reply {
+            Reply::Done => {}
+            Reply::Then(event) => {
+                self.mark(&format!("replied_then_{}", number_of(&event)));
+                self.enqueue(event, Origin::Fed(effect));
+            }
+            Reply::Failed => self.fail(),
+        }
+        self.settle();
+        0
+    }
+
+    /// Notes a corner. Of a machine that was set up only those are noted that
+    /// it was set up for.
+    fn mark(&mut self, name: &str) {
+        if !self.set_up {
+            self.corners.push(name.into());
+        } else if SET_UP.contains(&name) {
+            self.corners.push(format!("set_up_{name}"));
+        }
+    }
+
+    /// Up to the next effect or the end of the dispatch.
+    fn settle(&mut self) {
+        self.call_taken = 0;
+        while self.waiting.is_none() {
+            if let Some(effect) = self.batch.pop_front() {
+                self.hand_out(effect);
+            } else if let Some((event, origin)) = self.queue.pop_front() {
+                self.take(event, origin);
+            } else {
+                self.end();
+                break;
+            }
+        }
+        self.mark(&call_settled(self.call_taken));
+    }
+
+    fn hand_out(&mut self, effect: Effect) {
+        self.place += 1;
+        if let Effect::Emit(event) = effect {
+            self.mark(if self.queue.len() == QUEUE {
+                "emit_found_8_queued"
+            } else {
+                "emit_queued"
+            });
+            self.enqueue(event, Origin::Emitted);
+            return;
+        }
+        self.mark(&handed(&effect));
+        if self.place > FAR {
+            self.mark("handed_past_place_256");
+        }
+        self.waiting = Some(effect);
+    }
+
+    /// An event to the back of the queue; where it is full, a failure.
+    fn enqueue(&mut self, event: Event, origin: Origin) {
+        if self.queue.len() < QUEUE {
+            self.queue.push_back((event, origin));
+            if self.queue.len() == QUEUE {
+                self.mark("queue_filled");
+            }
+            return;
+        }
+        if self.failures > 0 {
+            self.mark("lost_after_a_failure");
+            return;
+        }
+        if let Origin::Fed(_) = origin {
+            self.mark("reply_found_8_queued");
+        }
+        self.latch();
+    }
+
+    fn fail(&mut self) {
+        let left = !self.batch.is_empty();
+        match self.failures {
+            0 => {
+                self.mark(if left {
+                    "first_failure_with_effects_left"
+                } else {
+                    "first_failure_at_the_last_effect"
+                });
+                self.mark(match self.queue.len() {
+                    0 => "first_failure_queue_empty",
+                    QUEUE => "first_failure_queue_full",
+                    _ => "first_failure_queue_of_1_to_7",
+                });
+                self.latch();
+            }
+            1 => {
+                self.failures = 2;
+                self.mark("second_failure");
+                if left {
+                    self.mark("second_failure_with_effects_left");
+                }
+            }
+            _ => self.mark("third_failure"),
+        }
+        self.batch.clear();
+    }
+
+    /// The first failure in a dispatch.
+    fn latch(&mut self) {
+        self.failures = 1;
+        self.batch.clear();
+        if self.queue.len() == QUEUE {
+            self.queue.pop_back();
+            self.mark("newest_put_out");
+        }
+        self.queue
+            .push_front((Event::EffectFailed, Origin::Latched));
+    }
+
+    fn take(&mut self, event: Event, origin: Origin) {
+        let before = self.machine();
+        let sink = self.rust.step_once(&event);
+        self.batch.extend(sink.effects());
+        self.place = 0;
+        self.call_taken += 1;
+        self.dispatch_taken += 1;
+        let after = self.machine();
+        let names = taken(&Taken {
+            event,
+            origin,
+            before: &before,
+            after: &after,
+            effects: sink.effects(),
+        });
+        for name in names {
+            self.mark(&name);
+        }
+    }
+
+    fn end(&mut self) {
+        for name in ended(&self.machine(), self.dispatch_taken) {
+            self.mark(&name);
+        }
+        self.failures = 0;
+        self.dispatch_taken = 0;
+    }
+}
