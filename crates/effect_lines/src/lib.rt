@@ -5,7 +5,8 @@ ghost use Prim.Native.Nat.{_≤_};
 ghost use lib.ListN.{length};
 ghost use Rattle.text.specs.Text.{bytes, _⇥_, line, decimal};
 ghost use Rattle.text.specs.Lines.{textOf, Pushed};
-ghost use Rattle.printed.specs.Transcript.{idText, causeText, effectLine};
+ghost use Rattle.printed.specs.Transcript.{effectLine};
+ghost use Rattle.text.specs.Values.{idText, failureText};
 use model::BootFailureKind;
 use model::ComponentId;
 use model::Effect;
@@ -26,7 +27,7 @@ fn recover_line(id: ComponentId, attempt: u8) -> Line
 }
 
 fn push_cause(l: Line, kind: BootFailureKind) -> Line
-    ensures { λ r. ⌜ Pushed l (9 ∷ causeText kind) r ⌝ }
+    ensures { λ r. ⌜ Pushed l (9 ∷ failureText kind) r ⌝ }
 {
     match kind {
         BootFailureKind::TimedOut => text::push_field(l, b"TimedOut"),
@@ -36,7 +37,7 @@ fn push_cause(l: Line, kind: BootFailureKind) -> Line
 }
 
 fn boot_line(id: ComponentId, checkpoint: u16, kind: BootFailureKind) -> Line
-    ensures { λ r. ⌜ textOf r ≡ line (bytes "X" ⇥ bytes "ReportBootFailed" ⇥ idText id ⇥ decimal checkpoint ⇥ causeText kind) ⌝ }
+    ensures { λ r. ⌜ textOf r ≡ line (bytes "X" ⇥ bytes "ReportBootFailed" ⇥ idText id ⇥ decimal checkpoint ⇥ failureText kind) ⌝ }
 {
     let l = text::push_number(text::start(b'X', b"ReportBootFailed"), id.0 as u64);
     text::push(

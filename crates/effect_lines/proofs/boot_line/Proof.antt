@@ -4,7 +4,6 @@ use native.Mathlib.Omega.{arith}
 use mathlib.Core.List.{[], _∷_, append-assoc}
 use lib.ListN.{length, length-append}
 use Rattle.text.proofs.Decimal.{decimal-short, decimal-below}
-use Rattle.printed.specs.Transcript.{idText}
 use Rattle.text.proofs.Laws.{grown, exactly}
 use Rattle.effect_lines.proofs.Short.{cause-short}
 use borrow.Author.Needs.{needs}
@@ -33,7 +32,6 @@ push-requires : tie.Need-push-requires
 push-requires c κs = search needs
 
 returns : tie.Need-returns
-unfolding idText
 returns c =
     let a = c .before .before .before .before .before .before .before .args in
     let small : a .id .0 < 10 ^ 3 = search needs in

@@ -5,7 +5,6 @@ use native.Mathlib.Omega.{arith}
 use lib.ListN.{length, length-append}
 use Rattle.text.proofs.Laws.{exactly}
 use Rattle.text.proofs.Decimal.{decimal-short}
-use Rattle.printed.specs.Transcript.{idText}
 use borrow.Author.Needs.{needs}
 use Rattle.effect_lines.proofs.id_line.Statement.{statement}
 use Rattle.effect_lines.proofs.id_line.Tie as tie
@@ -17,7 +16,6 @@ number-line-requires : tie.Need-number-line-requires
 number-line-requires c κs = search needs
 
 returns : tie.Need-returns
-unfolding idText
 returns c =
     exactly _ (c .number-line .ensures) refl
     (simp length-append (omega (arith, decimal-short (c .before .before .before .args .id .0))))

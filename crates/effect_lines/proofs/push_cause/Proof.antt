@@ -1,5 +1,4 @@
 -- `effect_lines::push_cause` meets its contract: one name for each cause.
-use Rattle.printed.specs.Transcript.{causeText}
 use borrow.Author.Needs.{needs}
 use Rattle.effect_lines.proofs.push_cause.Statement.{statement}
 use Rattle.effect_lines.proofs.push_cause.Tie as tie
@@ -32,15 +31,12 @@ push-field-requires-3 : tie.Need-push-field-requires-3
 push-field-requires-3 c κs = search needs
 
 returns : tie.Need-returns
-unfolding causeText
 returns c = rw (c .before .before .enum-told .given .1) (c .push-field .ensures)
 
 returns-2 : tie.Need-returns-2
-unfolding causeText
 returns-2 c = rw (c .before .before .enum-told2 .given .1) (c .push-field2 .ensures)
 
 returns-3 : tie.Need-returns-3
-unfolding causeText
 returns-3 c = rw (c .before .before .enum-told3 .given .1) (c .push-field3 .ensures)
 
 pub push-cause-spec : {M : Type 1} → statement M

@@ -3,7 +3,6 @@ use native.Mathlib.Omega.{arith}
 use mathlib.Core.List.{[], _∷_, append-assoc}
 use lib.ListN.{length, length-append}
 use Rattle.text.proofs.Decimal.{decimal-short}
-use Rattle.printed.specs.Transcript.{idText}
 use Rattle.text.proofs.Laws.{grown, exactly}
 use borrow.Author.Needs.{needs}
 use Rattle.effect_lines.proofs.recover_line.Statement.{statement}
@@ -28,7 +27,6 @@ push-requires : tie.Need-push-requires
 push-requires c κs = search needs
 
 returns : tie.Need-returns
-unfolding idText
 returns c =
     let a = c .before .before .before .before .before .before .args in
     exactly _ (grown (grown (grown (c .before .before .before .before .start .ensures) (c .before .before .push-number .ensures)) (c .before .push-number2 .ensures)) (c .push .ensures)) (simp append-assoc)

@@ -1,5 +1,4 @@
 -- `printed::push_option` meets its contract: the id, or the sign for none.
-use Rattle.printed.specs.Transcript.{optionText, idText}
 use borrow.Author.Needs.{needs}
 use Rattle.printed.proofs.push_option.Statement.{statement}
 use Rattle.printed.proofs.push_option.Tie as tie
@@ -23,11 +22,9 @@ push-number-requires : tie.Need-push-number-requires
 push-number-requires c κs = search needs
 
 returns : tie.Need-returns
-unfolding optionText idText
 returns c = rw (c .before .before .enum-told .given .1) (c .push-field .ensures)
 
 returns-2 : tie.Need-returns-2
-unfolding optionText idText
 returns-2 c = rw (c .before .before .before .id .given .1) (c .push-number .ensures)
 
 pub push-option-spec : {M : Type 1} → statement M

@@ -5,7 +5,7 @@ use native.Mathlib.Omega.{arith}
 use lib.ListN.{length, length-append}
 use Rattle.text.proofs.Laws.{exactly}
 use Rattle.text.proofs.Decimal.{decimal-short}
-use Rattle.printed.specs.Transcript.{stateLine, stateText, idText}
+use Rattle.printed.specs.Transcript.{stateLine, stateText}
 use borrow.Author.Needs.{needs}
 use Rattle.printed.proofs.state_line.Statement.{statement}
 use Rattle.printed.proofs.state_line.Tie as tie
@@ -74,33 +74,33 @@ name-line-requires-5 : tie.Need-name-line-requires-5
 name-line-requires-5 c κs = search needs
 
 returns : tie.Need-returns
-unfolding stateLine stateText idText
+unfolding stateLine stateText
 returns c = rw (c .before .before .enum-told .given .1) (exactly _ (c .name-line .ensures) refl (omega arith))
 
 returns-2 : tie.Need-returns-2
-unfolding stateLine stateText idText
+unfolding stateLine stateText
 returns-2 c = rw (c .before .before .enum-told2 .given .1) (exactly _ (c .name-line2 .ensures) refl (omega arith))
 
 returns-3 : tie.Need-returns-3
-unfolding stateLine stateText idText
+unfolding stateLine stateText
 returns-3 c = rw (c .before .before .state .given .1) (c .awaiting-line .ensures)
 
 returns-4 : tie.Need-returns-4
-unfolding stateLine stateText idText
+unfolding stateLine stateText
 returns-4 c = rw (c .before .before .enum-told3 .given .1) (exactly _ (c .name-line3 .ensures) refl (omega arith))
 
 returns-5 : tie.Need-returns-5
-unfolding stateLine stateText idText
+unfolding stateLine stateText
 returns-5 c = rw (c .before .before .enum-told4 .given .1) (exactly _ (c .name-line4 .ensures) refl (omega arith))
 
 returns-6 : tie.Need-returns-6
-unfolding stateLine stateText idText
+unfolding stateLine stateText
 returns-6 c =
     let given = c .before .before .before .before .state2 .given in
     rw (given .1) (exactly _ (c .number-line .ensures) refl (simp length-append (omega (arith, decimal-short (given .0 .0 .0)))))
 
 returns-7 : tie.Need-returns-7
-unfolding stateLine stateText idText
+unfolding stateLine stateText
 returns-7 c = rw (c .before .before .enum-told5 .given .1) (exactly _ (c .name-line5 .ensures) refl (omega arith))
 
 pub state-line-spec : {M : Type 1} → statement M

@@ -3,7 +3,7 @@ use native.Mathlib.Omega.{arith}
 use mathlib.Core.List.{[], _∷_, append-assoc}
 use lib.ListN.{length, length-append}
 use Rattle.text.proofs.Decimal.{decimal-short}
-use Rattle.printed.specs.Transcript.{statusLine, statusText, idText}
+use Rattle.printed.specs.Transcript.{statusLine, statusText}
 use Rattle.text.proofs.Laws.{chained, begun, grown, exactly}
 use Rattle.printed.proofs.Short.{lifecycle-short, flag-short}
 use borrow.Author.Needs.{needs}
@@ -41,7 +41,7 @@ push-requires-2 : tie.Need-push-requires-2
 push-requires-2 c κs = search needs
 
 returns : tie.Need-returns
-unfolding statusLine statusText idText
+unfolding statusLine statusText
 returns c =
     let a = c .before .before .before .before .before .before .before .before .before .args in
     let s = a .status in
