@@ -196,7 +196,7 @@ pub fn next_event(m: Machine) -> OptionEvent
 }
 
 // One turn: nothing while an effect waits; else the next effect of the batch; else the front event; else the dispatch has
-// ended, and its failure with it.
+// ended, and it counts as failed no more.
 pub fn turn(m: Machine) -> Machine
     requires { ⌜ Whole m ⌝ }
     ensures { λ r. ⌜ Becomes m (turnOf (chainOf m) (m .«max_retry») (view m)) r ⌝ }

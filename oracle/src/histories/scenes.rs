@@ -189,12 +189,18 @@ pub fn drained(random: &mut SplitMix64) -> History {
     writer.finish()
 }
 
+/// A chain of at most `most` components, the first of them Required.
+fn led_by_required(random: &mut SplitMix64, most: usize) -> Vec<Entry> {
+    let length = random.between(1, most);
+    let mut entries = accepted(random, length);
+    entries[0].1.failure_policy = FailurePolicy::Required;
+    entries
+}
+
 /// A chain that is led to Ready without a fault, and then what Ready and
 /// Updating have rules for.
 pub fn in_service(random: &mut SplitMix64) -> History {
-    let length = random.between(1, 3);
-    let mut entries = accepted(random, length);
-    entries[0].1.failure_policy = FailurePolicy::Required;
+    let entries = led_by_required(random, 3);
     let max_retry = draw_max_retry(random);
     let mut writer = Writer::new(random, entries, max_retry);
     writer.power_good();
@@ -254,9 +260,7 @@ pub fn large(random: &mut SplitMix64) -> History {
 
 /// Machines that no history leads to, each with a few events.
 pub fn set_up_machines(random: &mut SplitMix64) -> History {
-    let length = random.between(1, 6);
-    let mut entries = accepted(random, length);
-    entries[0].1.failure_policy = FailurePolicy::Required;
+    let entries = led_by_required(random, 6);
     let max_retry = if random.one_in(3) {
         u8::MAX
     } else {
