@@ -1,0 +1,124 @@
+-- Section 5 and question 1, from text to value: the lines of a sheet, the first bad one, and what the others say.
+use mathlib.Core.Path.{_≡_}
+use mathlib.Core.Bool.{Bool, true, false}
+use mathlib.Core.List.{List, [], _∷_}
+use Prim.Native.Nat.{ℕ, suc, _<_, _≤_}
+use lib.Dec.{eqb}
+use lib.ListN.{length, take, drop}
+use Rattle.model.specs.Vocabulary.{pick}
+use Rattle.model.specs.declared.Component.{Component}
+use Rattle.components.specs.declared.ComponentList.{ComponentList}
+use Rattle.components.specs.Chain.{noEntries, pushed}
+use Rattle.lines.specs.declared.Row.{Row}
+use Rattle.lines.specs.declared.Row.the-variants.{Retry, Card, Begin, Answer, Bad}
+use Rattle.lines.specs.Read.{rowOf}
+use Rattle.reader.specs.declared.Part.{Part}
+use Rattle.reader.specs.declared.Part.the-variants.{Opening, Cards, Script, Wrong}
+use Rattle.reader.specs.declared.Next.{Next}
+use Rattle.reader.specs.declared.Sheet.{Sheet}
+
+-- The pieces of a text between bytes 10: one more than there are such bytes.
+abbrev pub joined : ℕ → List (List ℕ) → List (List ℕ)
+joined x [] = []
+joined x (p ∷ ps) = (x ∷ p) ∷ ps
+
+unfoldable pub pieces : List ℕ → List (List ℕ)
+pieces [] = [] ∷ []
+pieces (x ∷ l) = pick (eqb x 10) ([] ∷ pieces l) (joined x (pieces l))
+
+-- What each line says. Every piece but the last is a line that is ended. The last one is empty, or it is a line that is not
+-- ended, and so a bad one.
+unfoldable pub rowsOf : List (List ℕ) → List Row
+rowsOf [] = []
+rowsOf (p ∷ []) = pick (eqb (length p) 0) [] (Bad ∷ [])
+rowsOf (p ∷ q ∷ ps) = rowOf p ∷ rowsOf (q ∷ ps)
+
+unfoldable pub rowsIn : List ℕ → List Row
+rowsIn s = rowsOf (pieces s)
+
+-- The B line, then C lines, then E and R lines.
+abbrev pub partAfter : Part → Row → Part
+partAfter Opening (Retry n) = Cards
+partAfter Opening (Card c) = Wrong
+partAfter Opening (Begin e) = Wrong
+partAfter Opening (Answer a) = Wrong
+partAfter Opening Bad = Wrong
+partAfter Cards (Retry n) = Wrong
+partAfter Cards (Card c) = Cards
+partAfter Cards (Begin e) = Script
+partAfter Cards (Answer a) = Script
+partAfter Cards Bad = Wrong
+partAfter Script (Retry n) = Wrong
+partAfter Script (Card c) = Wrong
+partAfter Script (Begin e) = Script
+partAfter Script (Answer a) = Script
+partAfter Script Bad = Wrong
+partAfter Wrong r = Wrong
+
+abbrev pub isWrong : Part → Bool
+isWrong Opening = false
+isWrong Cards = false
+isWrong Script = false
+isWrong Wrong = true
+
+abbrev pub isOpening : Part → Bool
+isOpening Opening = true
+isOpening Cards = false
+isOpening Script = false
+isOpening Wrong = false
+
+-- The first bad line of the rows from line n on, or 0. Where the B line is missing it is the line after the last.
+unfoldable pub badFrom : Part → ℕ → List Row → ℕ
+badFrom part n [] = pick (isOpening part) n 0
+badFrom part n (r ∷ rs) = pick (isWrong (partAfter part r)) n (badFrom (partAfter part r) (suc n) rs)
+
+-- Question 1: the first bad line from 1, or 0 where every line is as in section 5.
+unfoldable pub badLine : List ℕ → ℕ
+badLine s = badFrom Opening 1 (rowsIn s)
+
+-- max_retry: the number of the B line.
+abbrev pub retryAfter : ℕ → Row → ℕ
+retryAfter n (Retry k) = k
+retryAfter n (Card c) = n
+retryAfter n (Begin e) = n
+retryAfter n (Answer a) = n
+retryAfter n Bad = n
+
+unfoldable pub retryFrom : ℕ → List Row → ℕ
+retryFrom n [] = n
+retryFrom n (r ∷ rs) = retryFrom (retryAfter n r) rs
+
+unfoldable pub retryIn : List ℕ → ℕ
+retryIn s = retryFrom 0 (rowsIn s)
+
+-- The components of the C lines.
+abbrev pub cardBefore : Row → List Component → List Component
+cardBefore (Retry n) cs = cs
+cardBefore (Card c) cs = c ∷ cs
+cardBefore (Begin e) cs = cs
+cardBefore (Answer a) cs = cs
+cardBefore Bad cs = cs
+
+unfoldable pub cardsOf : List Row → List Component
+cardsOf [] = []
+cardsOf (r ∷ rs) = cardBefore r (cardsOf rs)
+
+unfoldable pub cardsIn : List ℕ → List Component
+cardsIn s = cardsOf (rowsIn s)
+
+-- A list of components that these are pushed to, one after the other.
+unfoldable pub pushedAll : ComponentList → List Component → ComponentList
+pushedAll l [] = l
+pushedAll l (c ∷ cs) = pushedAll (pushed l c) cs
+
+-- The line at a place of the sheet, and the place after it.
+pub record Reads (s : List ℕ) (at : ℕ) (r : Next) : Type 0 where
+  pub row : rowsIn (drop at s) ≡ r .row ∷ rowsIn (drop (r .after) s)
+  pub onward : at < r .after
+  pub within : r .after ≤ length s
+
+-- The first bad line, and where there is none, max_retry and the components; of more than 255 the first 255 are kept.
+pub record Whole (s : List ℕ) (r : Sheet) : Type 0 where
+  pub bad : r .bad ≡ badLine s
+  pub retry : badLine s ≡ 0 → r .«max_retry» ≡ retryIn s
+  pub list : badLine s ≡ 0 → r .list ≡ pushedAll noEntries (cardsIn s)
