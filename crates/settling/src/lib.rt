@@ -101,7 +101,7 @@ fn fail(m: Machine) -> Machine
 
 // An event to the back of the queue. One that finds 8 queued is lost: that is the first failure, if there was none; after
 // one, the batch goes on.
-fn enqueue(m: Machine, event: Event) -> Machine
+pub fn enqueue(m: Machine, event: Event) -> Machine
     requires { ⌜ Whole m ⌝ }
     ensures { λ r. ⌜ Becomes m (enqueue event (view m)) r ⌝ }
 {
