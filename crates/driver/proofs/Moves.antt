@@ -5,7 +5,7 @@ use mathlib.Core.List.{List, [], _∷_, _++_, append-nil}
 use Prim.Native.Nat.{ℕ, _+_, _<_, _≤_}
 use native.Mathlib.Omega.{arith}
 use lib.ListN.{length, drop}
-use borrow.Author.Tests.{le-leb, lt-leb, lt-ltb, le-ltb}
+use borrow.Author.Tests.{le-leb, lt-leb, lt-ltb, le-ltb, eq-eqb, ne-eqb}
 use Rattle.model.specs.Vocabulary.{pick}
 use Rattle.components.specs.Chain.{idAt}
 use Rattle.machine.specs.Status.{statusAt}
@@ -22,7 +22,9 @@ use Rattle.reader.specs.Read.{rowsIn, Reads}
 use Rattle.reader.proofs.Rows.{rows-past}
 use Rattle.driver.specs.declared.Cursor.{Cursor}
 use Rattle.driver.specs.declared.Move.{Move}
-use Rattle.driver.specs.Run.{Entry, Told, entryLine, transcript, Setting, Point, Step, silent, machineIs, workIs, settledIs, toldIs, onward, stopped, turned, taking, telling, stageBy, stageOf}
+use Rattle.driver.specs.Run.{Entry, Told, entryLine, transcript, Setting, Point, Step, silent, machineIs, workIs, settledIs, toldIs, onward, stopped, turned, taking, finishing, telling, reading, stageBy, stageOf, stepBy, stepFrom}
+use Rattle.driver.specs.declared.Stage.{Stage}
+use Rattle.driver.specs.declared.Stage.the-variants.{Rests}
 use Rattle.driver.specs.Seen.{seen, Stands, Moved, Stepped}
 
 -- One line is a transcript.
@@ -38,6 +40,14 @@ seen-machine s c = refl
 pub seen-line : (s : List ℕ) (c : Cursor) → seen s c .line ≡ c .line
 unfolding seen
 seen-line s c = refl
+
+pub seen-work : (s : List ℕ) (c : Cursor) → seen s c .work ≡ c .work
+unfolding seen
+seen-work s c = refl
+
+pub seen-stage : (s : List ℕ) (c : Cursor) (g : Stage) → stageOf (view (c .machine)) ≡ g → stageOf (seen s c .machine) ≡ g
+unfolding seen
+seen-stage s c g e = e
 
 -- The lines from the cursor on: none at the end of the sheet, else the next one and those after it.
 pub seen-end : (s : List ℕ) (c : Cursor) → length s ≤ c .at → seen s c .rows ≡ []
@@ -113,3 +123,15 @@ module _ (st : Setting) (p : Point) where
 
   pub tell-ends : length (st .chain) ≤ p .told → telling st p ≡ silent (stopped 0 0 p)
   tell-ends h = ap (λ (b : Bool). pick b told (silent (stopped 0 0 p))) (le-ltb (p .told) (length (st .chain)) h)
+
+-- A step, by what is due; and with nothing left or queued, by whether an E line is at work.
+module _ (st : Setting) (p : Point) where
+  pub step-by : (g : Stage) → stageOf (p .machine) ≡ g → stepFrom st p ≡ stepBy st p g
+  unfolding stepFrom
+  step-by g e = ap (stepBy st p) e
+
+  pub step-reads : p .work ≡ 0 → stepBy st p Rests ≡ reading st p (p .rows)
+  step-reads h = ap (λ (b : Bool). pick b (reading st p (p .rows)) (finishing st p)) (eq-eqb (p .work) 0 h)
+
+  pub step-finishes : (p .work ≡ 0 → ⊥) → stepBy st p Rests ≡ finishing st p
+  step-finishes h = ap (λ (b : Bool). pick b (reading st p (p .rows)) (finishing st p)) (ne-eqb (p .work) 0 h)

@@ -4,8 +4,9 @@ ghost use mathlib.Core.List.{List};
 ghost use Prim.Native.Nat.{ℕ, _<_, _≤_};
 ghost use lib.ListN.{length, drop};
 ghost use Rattle.text.specs.Lines.{textOf};
+ghost use Rattle.settling.specs.Settle.{enqueue};
 ghost use Rattle.settling.specs.View.{view, Whole};
-ghost use Rattle.driver.specs.Run.{stopped, onward, silent, answered, answering, turned, handed, handing, taking, finishing, telling, begun, reading, stageOf, stepFrom, transcript};
+ghost use Rattle.driver.specs.Run.{stopped, onward, silent, answered, answering, turned, handed, handing, taking, finishing, telling, machineIs, workIs, reading, stageOf, stepFrom, transcript};
 ghost use Rattle.driver.specs.Seen.{seen, settingOf, Stands, Moved, Stepped, wrote, runOn, Ran};
 ghost use Rattle.reader.specs.Read.{rowsIn};
 use lines::Row;
@@ -215,13 +216,12 @@ fn tell(c: Cursor) -> Move
     }
 }
 
-// The event of an E line is queued.
-fn begin(c: Cursor, event: Event) -> Cursor
+// The event of the E line at this line is queued.
+fn begin(c: Cursor, event: Event, line: usize) -> Cursor
     requires { ⌜ Whole (c .machine) ⌝ }
-    ensures { λ r. ⌜ ((s : List ℕ) → Stands s c → Moved s c (begun event (seen s c)) r) ⌝ }
+    ensures { λ r. ⌜ ((s : List ℕ) → Stands s c → Moved s c (workIs line (machineIs (enqueue event (seen s c .machine)) (seen s c))) r) ⌝ }
 {
     let machine = c.machine;
-    let line = c.line;
     let next = settling::enqueue(machine, event);
     let mut v = c;
     v.machine = next;
@@ -243,7 +243,7 @@ fn read(sheet: &[u8], c: Cursor) -> Move
     match row {
         Row::Retry(_) => silent(pass(c, next.after)),
         Row::Card(_) => silent(pass(c, next.after)),
-        Row::Begin(event) => silent(pass(begin(c, event), next.after)),
+        Row::Begin(event) => silent(begin(pass(c, next.after), event, c.line)),
         Row::Answer(_) => silent(stop(c, 7, c.line as u64)),
         Row::Bad => silent(pass(c, next.after)),
     }

@@ -11,7 +11,7 @@ enqueue-requires c κs = search needs
 
 returns : tie.Need-returns
 unfolding seen
-returns c = λ s h. let m = moved-steered h (c .enqueue .ensures) in moved-then (workIs (c .before .before .args .c .line)) m (moved-works (m .stands) (c .before .before .args .c .line))
+returns c = λ s h. let m = moved-steered h (c .enqueue .ensures) in moved-then (workIs (c .before .before .args .line)) m (moved-works (m .stands) (c .before .before .args .line))
 
 pub begin-spec : {M : Type 1} → statement M
 begin-spec = tie.close (tie.spec enqueue-requires returns)

@@ -1,3 +1,9 @@
+-- `drive` meets its contract: what is written so far, and the steps that are left, give the whole run.
+use mathlib.Core.Path.{refl}
+use borrow.Author.Needs.{needs}
+use native.Mathlib.Omega.{arith}
+use Rattle.driver.proofs.Going.{Going, measure, began, long, ends, goes-on, comes-down}
+use Rattle.driver.specs.Seen.{seen}
 use Rattle.driver.proofs.drive.Statement.{statement}
 use Rattle.driver.proofs.drive.Tie as tie
 use Rattle.driver.proofs.drive.Reads as reads
@@ -7,42 +13,52 @@ use Rattle.driver.proofs.step.Reads as step-reads
 use Rattle.text.proofs.append.Reads as append-reads
 
 abbrev Inv-loop : tie.InvT-loop
-Inv-loop sheet out₀ limit c₀ out c = ?
+Inv-loop sheet out₀ limit c₀ out c = Going sheet out₀ limit c₀ out c
 
 abbrev μ-loop : tie.MeasureT-loop
-μ-loop sheet out₀ limit c₀ out c = ?
+μ-loop sheet out₀ limit c₀ out c = measure sheet limit (c₀ .machine) c
 
--- src/lib.rt:308:5
 loop-holds : tie.Need-loop-holds Inv-loop μ-loop
-loop-holds c = ?
+loop-holds c = began (c .before .before .args .sheet .now) (c .before .before .args .out .now) (c .before .before .args .limit) _ record { whole = c .before .before .pre; within = omega arith; lines = omega arith } refl
 
--- src/lib.rt:309:13
 step-requires : tie.Need-step-requires Inv-loop μ-loop
-step-requires c κs = ?
+step-requires c κs = c .before .loop .inv .stands
 
--- src/lib.rt:313:13
 append-requires : tie.Need-append-requires Inv-loop μ-loop
-append-requires c κs = ?
+append-requires c κs = search needs
 
--- src/lib.rt:314:9
 record-line-requires : tie.Need-record-line-requires Inv-loop μ-loop
-record-line-requires c κs = ?
+record-line-requires c κs = search needs
 
--- src/lib.rt:308:5
 loop-less : tie.Need-loop-less Inv-loop μ-loop
-loop-less c = ?
+loop-less c =
+    let start = c .before .before .before .before .before .before .before .before .before .before .before .before in
+    let s = start .args .sheet .now in
+    let out = start .args .out .now in
+    let loop = c .before .before .before .before .before .before .before .before .before .loop in
+    let on = c .before .before .before .before .before .before .before .before .loop-test .taken in
+    let step = c .before .before .before .before .before .before .before .step in
+    comes-down s out (start .args .limit) _ (loop .out) (loop .c) (loop .inv) on (step .result) (step .ensures) (c .before .before .before .append .result) (c .record-line .result) (c .record-line .ensures)
 
--- src/lib.rt:308:5
 loop-again : tie.Need-loop-again Inv-loop μ-loop
-loop-again c = ?
+loop-again c =
+    let start = c .before .before .before .before .before .before .before .before .before .before .before .before in
+    let s = start .args .sheet .now in
+    let out = start .args .out .now in
+    let loop = c .before .before .before .before .before .before .before .before .before .loop in
+    let on = c .before .before .before .before .before .before .before .before .loop-test .taken in
+    let step = c .before .before .before .before .before .before .before .step in
+    let append = c .before .before .before .append in
+    goes-on s out (start .args .limit) _ (loop .out) (loop .c) (loop .inv) on (step .result) (step .ensures) (append .result) (c .record-line .result) (c .record-line .ensures) (append .ensures .0) _ (append .ensures .1)
 
--- src/lib.rt:292:1
 same-length : tie.Need-same-length Inv-loop μ-loop
-same-length c = ?
+same-length c = long _ _ _ _ (c .before .loop .out) (c .before .loop .c) (c .before .loop .inv)
 
--- src/lib.rt:292:1
 returns : tie.Need-returns Inv-loop μ-loop
-returns c = ?
+unfolding seen
+returns c =
+    let start = c .before .before .before .before in
+    ends (start .args .sheet .now) (start .args .out .now) (start .args .limit) _ (c .before .loop .out) (c .before .loop .c) (c .before .loop .inv) (c .loop-test .left)
 
 pub drive-spec : {M : Type 1} → statement M
 drive-spec =

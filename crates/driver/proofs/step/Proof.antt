@@ -1,83 +1,94 @@
+-- `step` meets its contract: by what is due.
+use mathlib.Core.Path.{sym, _∙_}
+use Rattle.driver.specs.Run.{Point, silent}
+use Rattle.driver.specs.Seen.{seen, settingOf}
+use Rattle.driver.proofs.Moves.{seen-stage, seen-work, stepped-as, stepped-then, step-by, step-reads, step-finishes}
 use borrow.Author.Needs.{needs}
 use Rattle.driver.proofs.step.Statement.{statement}
 use Rattle.driver.proofs.step.Tie as tie
-use Rattle.driver.proofs.step.Reads as reads
-use Rattle.driver.proofs.step.Lts as lts
-use Rattle.driver.proofs.answer_by_line.Reads as answer-by-line-reads
-use Rattle.driver.proofs.due.Reads as due-reads
-use Rattle.driver.proofs.finish.Reads as finish-reads
-use Rattle.driver.proofs.hand_out.Reads as hand-out-reads
-use Rattle.driver.proofs.read.Reads as read-reads
-use Rattle.driver.proofs.silent.Reads as silent-reads
-use Rattle.driver.proofs.take.Reads as take-reads
 
--- src/lib.rt:258:9
 due-requires : tie.Need-due-requires
 due-requires c κs = search needs
 
--- src/lib.rt:260:32
 enum-told : tie.Need-enum-told
 enum-told c = search needs
 
--- src/lib.rt:260:32
 answer-by-line-requires : tie.Need-answer-by-line-requires
 answer-by-line-requires c κs = search needs
 
--- src/lib.rt:260:25
 silent-requires : tie.Need-silent-requires
 silent-requires c κs = search needs
 
--- src/lib.rt:261:28
 enum-told-2 : tie.Need-enum-told-2
 enum-told-2 c = search needs
 
--- src/lib.rt:261:28
 hand-out-requires : tie.Need-hand-out-requires
 hand-out-requires c κs = search needs
 
--- src/lib.rt:262:32
 enum-told-3 : tie.Need-enum-told-3
 enum-told-3 c = search needs
 
--- src/lib.rt:262:32
 take-requires : tie.Need-take-requires
 take-requires c κs = search needs
 
--- src/lib.rt:262:25
 silent-requires-2 : tie.Need-silent-requires-2
 silent-requires-2 c κs = search needs
 
--- src/lib.rt:264:16
 enum-told-4 : tie.Need-enum-told-4
 enum-told-4 c = search needs
 
--- src/lib.rt:265:17
 read-requires : tie.Need-read-requires
 read-requires c κs = search needs
 
--- src/lib.rt:265:17
 returns : tie.Need-returns
-returns c = ?
+returns c =
+    let start = c .before .before .before .before .before .before .before .before in
+    let s = start .args .sheet .now in
+    let st = settingOf (start .args .limit) (start .args .c .machine) in
+    let p = seen s (start .args .c) in
+    let due = step-by st p _ (seen-stage s (start .args .c) _ (sym (c .before .before .before .before .before .due .ensures) ∙ c .before .before .before .enum-told4 .given .1)) in
+    stepped-as (c .read .ensures (start .args .limit)) (sym (due ∙ step-reads st p (seen-work s (start .args .c) ∙ c .before .if1 .taken)))
 
--- src/lib.rt:267:13
 finish-requires : tie.Need-finish-requires
 finish-requires c κs = search needs
 
--- src/lib.rt:253:1
 returns-2 : tie.Need-returns-2
-returns-2 c = ?
+returns-2 c =
+    let start = c .before .before .before .before .before .before .before in
+    let s = start .args .sheet .now in
+    let st = settingOf (start .args .limit) (start .args .c .machine) in
+    let p = seen s (start .args .c) in
+    let due = step-by st p _ (seen-stage s (start .args .c) _ (sym (c .before .before .before .before .due .ensures) ∙ c .before .before .enum-told .given .1)) in
+    let a = c .before .answer-by-line .ensures in
+    stepped-as (stepped-then (λ (q : Point). silent q) a (c .silent .ensures s (a .stands))) (sym due)
 
--- src/lib.rt:253:1
 returns-3 : tie.Need-returns-3
-returns-3 c = ?
+returns-3 c =
+    let start = c .before .before .before .before .before .before in
+    let s = start .args .sheet .now in
+    let st = settingOf (start .args .limit) (start .args .c .machine) in
+    let p = seen s (start .args .c) in
+    let due = step-by st p _ (seen-stage s (start .args .c) _ (sym (c .before .before .before .due .ensures) ∙ c .before .enum-told2 .given .1)) in
+    stepped-as (c .hand-out .ensures s (start .args .limit) (start .pre)) (sym due)
 
--- src/lib.rt:253:1
 returns-4 : tie.Need-returns-4
-returns-4 c = ?
+returns-4 c =
+    let start = c .before .before .before .before .before .before .before in
+    let s = start .args .sheet .now in
+    let st = settingOf (start .args .limit) (start .args .c .machine) in
+    let p = seen s (start .args .c) in
+    let due = step-by st p _ (seen-stage s (start .args .c) _ (sym (c .before .before .before .before .due .ensures) ∙ c .before .before .enum-told3 .given .1)) in
+    let a = c .before .take .ensures s (start .pre) in
+    stepped-as (stepped-then (λ (q : Point). silent q) a (c .silent2 .ensures s (a .stands))) (sym due)
 
--- src/lib.rt:253:1
 returns-5 : tie.Need-returns-5
-returns-5 c = ?
+returns-5 c =
+    let start = c .before .before .before .before .before .before .before .before in
+    let s = start .args .sheet .now in
+    let st = settingOf (start .args .limit) (start .args .c .machine) in
+    let p = seen s (start .args .c) in
+    let due = step-by st p _ (seen-stage s (start .args .c) _ (sym (c .before .before .before .before .before .due .ensures) ∙ c .before .before .before .enum-told4 .given .1)) in
+    stepped-as (c .finish .ensures s (start .args .limit) (start .pre)) (sym (due ∙ step-finishes st p (λ e. c .before .if1 .left (sym (seen-work s (start .args .c)) ∙ e))))
 
 pub step-spec : {M : Type 1} → statement M
 step-spec =

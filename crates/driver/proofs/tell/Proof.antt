@@ -1,8 +1,11 @@
 -- `tell` meets its contract: a T line for the next component, or the end.
+
 use mathlib.Core.Path.{_≡_, sym, ap, _∙_}
 use Prim.Native.Nat.{_+_}
 use Rattle.model.specs.declared.ComponentId.{ComponentId}
 use Rattle.machine.specs.declared.ComponentStatus.{ComponentStatus}
+use Rattle.components.specs.Chain.{idAt}
+use Rattle.machine.specs.Status.{statusAt}
 use Rattle.printed.specs.Transcript.{statusLine}
 use Rattle.driver.specs.Run.{Point, silent, Told}
 use Rattle.driver.specs.Seen.{seen, settingOf}
@@ -42,7 +45,18 @@ add-v c = search needs
 
 returns-2 : tie.Need-returns-2
 unfolding seen
-returns-2 c = λ s limit h. ?
+returns-2 c = λ s limit h.
+    let a = c .before .before .before .before .before .before .before .args in
+    let st = settingOf limit (a .c .machine) in
+    let p = seen s (a .c) in
+    let named : c .before .before .id-at .result ≡ idAt (st .chain) (p .told) = c .before .before .id-at .ensures in
+    let status : c .before .status .result ≡ statusAt (p .machine .core .statuses) (p .told) = c .before .status .ensures in
+    stepped-as
+    record {
+      moved = moved-tells h (a .c .told + 1);
+      line = c .status-line .ensures ∙ (λ j. statusLine (named j) (status j)) ∙ sym (transcript-one (Told (idAt (st .chain) (p .told)) (statusAt (p .machine .core .statuses) (p .told))));
+    }
+    (sym (tell-more st p (omega (arith, c .before .before .before .before .count .ensures .0, c .before .before .before .if1 .left))))
 
 pub tell-spec : {M : Type 1} → statement M
 tell-spec =
