@@ -2,3 +2,6 @@
 pub mod Rows
 pub mod Left
 pub mod Kept
+pub mod Unbroken
+pub mod Inverse
+pub mod Examples

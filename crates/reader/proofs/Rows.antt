@@ -1,16 +1,18 @@
 -- The rows of a text, from its first line on: a line is cut at the first byte 10, and a text with no such byte is one bad line.
 use mathlib.Core.Path.{_≡_, refl, sym, ap, _∙_}
 use mathlib.Core.Bool.{Bool, true, false}
-use mathlib.Core.List.{List, [], _∷_}
+use mathlib.Core.List.{List, [], _∷_, _++_, append-assoc}
 use Prim.Native.Nat.{ℕ, suc, _+_, _-_, _<_, _≤_}
 use native.Mathlib.Omega.{arith}
 use borrow.Author.Tests.{ne-eqb}
 use lib.Dec.{eqb}
-use lib.ListN.{length, take, drop, length-drop, drop-of-length-le}
+use lib.ListN.{length, take, drop, length-append, length-drop, drop-of-length-le}
 use lib.Seq.{drop-drop}
 use Rattle.model.specs.Vocabulary.{pick}
+use Rattle.text.specs.Text.{line}
 use Rattle.fields.specs.Fields.{placeOf}
 use Rattle.fields.proofs.Scan.{place-le}
+use Rattle.fields.proofs.Cut.{Without, place-at, before-at, after-at}
 use Rattle.lines.specs.declared.Row.{Row}
 use Rattle.lines.specs.declared.Row.the-variants.{Bad}
 use Rattle.lines.specs.Read.{rowOf}
@@ -58,6 +60,14 @@ rows-cons p (q ∷ ps) h = refl
 pub rows-cut : (m : List ℕ) → placeOf 10 m < length m → rowsIn m ≡ rowOf (take (placeOf 10 m) m) ∷ rowsIn (drop (suc (placeOf 10 m)) m)
 unfolding rowsIn
 rows-cut m h = ap rowsOf (pieces-cut m h) ∙ rows-cons _ _ (some-piece _)
+
+pub rows-line : (l r : List ℕ) → Without 10 l → rowsIn (line l ++ r) ≡ rowOf l ∷ rowsIn r
+rows-line l r u =
+    let m = l ++ 10 ∷ r in
+    let h : placeOf 10 m < length m = omega (arith, place-at 10 l r u, length-append l (10 ∷ r)) in
+    let before = before-at 10 l r u in
+    let after = after-at 10 l r u in
+    ap rowsIn (append-assoc l (10 ∷ []) r) ∙ rows-cut m h ∙ (λ j. rowOf (before j) ∷ rowsIn (after j))
 
 -- A line that is not ended.
 pub rows-open : (m : List ℕ) → placeOf 10 m ≡ length m → 0 < length m → rowsIn m ≡ Bad ∷ []

@@ -16,6 +16,7 @@ use Rattle.reader.specs.declared.Part.{Part}
 use Rattle.reader.specs.declared.Part.the-variants.{Opening, Cards, Script, Wrong}
 use Rattle.reader.specs.declared.Next.{Next}
 use Rattle.reader.specs.declared.Sheet.{Sheet}
+use Rattle.reader.specs.Grammar.{Order, Begins, Answers, Content}
 
 -- The pieces of a text between bytes 10: one more than there are such bytes.
 abbrev pub joined : ℕ → List (List ℕ) → List (List ℕ)
@@ -105,6 +106,22 @@ cardsOf (r ∷ rs) = cardBefore r (cardsOf rs)
 
 unfoldable pub cardsIn : List ℕ → List Component
 cardsIn s = cardsOf (rowsIn s)
+
+-- The events and replies of the E and R lines.
+abbrev pub orderBefore : Row → List Order → List Order
+orderBefore (Retry n) os = os
+orderBefore (Card c) os = os
+orderBefore (Begin e) os = Begins e ∷ os
+orderBefore (Answer a) os = Answers a ∷ os
+orderBefore Bad os = os
+
+unfoldable pub ordersOf : List Row → List Order
+ordersOf [] = []
+ordersOf (r ∷ rs) = orderBefore r (ordersOf rs)
+
+-- What a sheet says. It means something only where no line is bad.
+unfoldable pub contentOf : List ℕ → Content
+contentOf s = record { maxRetry = retryIn s; cards = cardsIn s; orders = ordersOf (rowsIn s) }
 
 -- A list of components that these are pushed to, one after the other.
 unfoldable pub pushedAll : ComponentList → List Component → ComponentList

@@ -1,0 +1,7 @@
+-- Modules of proofs; they belong to no one function.
+pub mod TenRows
+pub mod RowsReached
+pub mod HandedTurns
+pub mod HandedCalls
+pub mod HandedSteps
+pub mod Handed
