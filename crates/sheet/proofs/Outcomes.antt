@@ -24,7 +24,7 @@ use Rattle.reader.specs.declared.Sheet.{Sheet}
 use Rattle.reader.specs.Read.{rowsIn, badLine, retryIn, cardsIn, pushedAll, Whole}
 use Rattle.reader.proofs.Kept.{kept-cards, kept-verdict}
 use Rattle.driver.specs.declared.Cursor.{Cursor}
-use Rattle.driver.specs.Run.{Setting, Point, Progress, transcript, startPoint, runFrom}
+use Rattle.driver.specs.Run.{Entry, Setting, Point, Progress, transcript, startPoint, runFrom}
 use Rattle.driver.specs.Seen.{runOn, Ran}
 use Rattle.sheet.specs.declared.Answer.{Answer}
 use Rattle.sheet.specs.Sheet.{chainIn, verdictIn, Outcome, checkOf, progressOf, ended, runOf, numbersOf, RunGives}
@@ -130,12 +130,13 @@ module _ (s out : List ℕ) (limit : ℕ) where
 
   -- Questions 1 to 6 refuse the sheet: nothing is written.
   pub refused-run : (checkOf s .number ≡ 0 → ⊥) → (r : Answer) → r ≡ numbersOf (checkOf s) → RunGives s out limit r out
-  unfolding runOf over transcript
+  unfolding runOf numbersOf over transcript
   refused-run h r e =
       let x : runOf s (length out) limit ≡ checkOf s = ap (λ (b : Bool). pick b whole (checkOf s)) (ne-eqb (checkOf s .number) 0 h) in
       record {
         numbers = e ∙ sym (ap numbersOf x);
-        buffer = ap (λ (es : List _). over out (transcript es)) (sym (ap (λ (o : Outcome). o .said) x ∙ said-none));
+        buffer = ap (λ (es : List Entry). over out (transcript es)) (sym (ap (λ (o : Outcome). o .said) x ∙ said-none));
+        within = let none : r .written ≡ 0 = ap (λ (a : Answer). a .written) e ∙ ap (λ (es : List Entry). length (transcript es)) said-none in omega (arith, none);
         ended = λ z. absurd (h z);
       }
 
@@ -147,6 +148,7 @@ module _ (s out : List ℕ) (limit : ℕ) where
       let o : runOf s (length out) limit ≡ ended x = ap (λ (b : Bool). pick b whole (checkOf s)) (eq-eqb (checkOf s .number) 0 h) ∙ ap (λ (y : Progress). ended y) (sym p) in
       record {
         numbers = (λ j. record { number = g .number j; place = g .place j; other = 0; written = g .written j; settled = g .settled j }) ∙ sym (ap numbersOf o);
+        within = omega (arith, g .written, g .within);
         buffer = g .buffer ∙ ap (λ (y : Outcome). over out (transcript (y .said))) (sym o);
         ended = λ z. ap (λ (y : Progress). y .point .going) (sym p) ∙ g .ended;
       }

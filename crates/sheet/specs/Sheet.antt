@@ -2,7 +2,7 @@
 use mathlib.Core.Path.{_≡_}
 use mathlib.Core.Bool.{Bool, false}
 use mathlib.Core.List.{List, []}
-use Prim.Native.Nat.{ℕ}
+use Prim.Native.Nat.{ℕ, _≤_}
 use lib.Dec.{eqb}
 use lib.ListN.{length, take}
 use Rattle.model.specs.Vocabulary.{pick}
@@ -51,9 +51,10 @@ runOf s room limit = pick (eqb (checkOf s .number) 0) (ended (progressOf s room 
 unfoldable pub numbersOf : Outcome → Answer
 numbersOf o = record { number = o .number; place = o .place; other = o .other; written = length (transcript (o .said)); settled = o .settled }
 
--- A run answers the five numbers of its outcome, and the buffer is as it was but for the transcript at its start. A run that
--- was not refused by questions 1 to 6 has ended: the outcome is not one that was cut off.
+-- A run answers the five numbers of its outcome, and the buffer is as it was but for the transcript at its start, which is no
+-- longer than the buffer. A run that was not refused by questions 1 to 6 has ended: the outcome is not one that was cut off.
 pub record RunGives (s out : List ℕ) (limit : ℕ) (r : Answer) (exit : List ℕ) : Type 0 where
   pub numbers : r ≡ numbersOf (runOf s (length out) limit)
   pub buffer : exit ≡ over out (transcript (runOf s (length out) limit .said))
+  pub within : r .written ≤ length out
   pub ended : checkOf s .number ≡ 0 → progressOf s (length out) limit .point .going ≡ false
