@@ -2,22 +2,31 @@
 
 use std::env;
 use std::ffi::{OsStr, OsString};
+use std::fmt::Display;
 use std::fs;
 use std::io::{self, BufRead, BufWriter, Write};
 use std::path::Path;
 use std::process::ExitCode;
 
-use crate::compare::{compare, write_cases};
+use crate::compare::{Outcome, compare, write_cases};
 use crate::subject::Subject;
 
 /// Runs the command that the arguments name.
 pub fn main<S: Subject>() -> ExitCode {
+    with_arguments(S::NAME, run::<S>)
+}
+
+/// Gives the program's arguments to `run` and prints its error, if there is one.
+pub fn with_arguments(
+    name: &str,
+    run: impl FnOnce(&[&OsStr]) -> Result<ExitCode, String>,
+) -> ExitCode {
     let arguments: Vec<OsString> = env::args_os().skip(1).collect();
     let arguments: Vec<&OsStr> = arguments.iter().map(OsString::as_os_str).collect();
-    match run::<S>(&arguments) {
+    match run(&arguments) {
         Ok(code) => code,
         Err(message) => {
-            eprintln!("{}: {message}", S::NAME);
+            eprintln!("{name}: {message}");
             ExitCode::from(2)
         }
     }
@@ -46,7 +55,9 @@ fn run<S: Subject>(arguments: &[&OsStr]) -> Result<ExitCode, String> {
             done(write_cases::<S>(output, number(seed)?, number(count)?))
         }
         (Some("compare"), [seed, count, port]) => {
-            print_comparison::<S>(number(seed)?, number(count)?, port)
+            let outcome = compare::<S>(number(seed)?, number(count)?, port);
+            outcome
+                .and_then(|outcome| print_outcome(&outcome))
                 .map_err(|error| error.to_string())
         }
         (Some("sample"), [seed, folder]) => {
@@ -56,7 +67,7 @@ fn run<S: Subject>(arguments: &[&OsStr]) -> Result<ExitCode, String> {
     }
 }
 
-fn number<T: std::str::FromStr>(argument: &OsStr) -> Result<T, String> {
+pub fn number<T: std::str::FromStr>(argument: &OsStr) -> Result<T, String> {
     argument
         .to_str()
         .and_then(|text| text.parse().ok())
@@ -95,8 +106,7 @@ fn print_answer<S: Subject>(
 }
 
 /// Prints the failures and the counts; success only if nothing failed.
-fn print_comparison<S: Subject>(seed: u64, count: usize, port: &OsStr) -> io::Result<ExitCode> {
-    let outcome = compare::<S>(seed, count, port)?;
+pub fn print_outcome<C: Display>(outcome: &Outcome<C>) -> io::Result<ExitCode> {
     let mut output = io::stdout().lock();
     for failure in &outcome.failures {
         writeln!(output, "{failure}")?;

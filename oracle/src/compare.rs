@@ -9,7 +9,7 @@ use std::thread;
 use crate::subject::{Counts, Subject};
 
 /// A comparison ends after this many differences.
-const MOST_DIFFERENCES: u64 = 10;
+pub const MOST_DIFFERENCES: u64 = 10;
 
 /// What a comparison found.
 #[derive(Default)]

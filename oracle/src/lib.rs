@@ -7,5 +7,7 @@ pub mod compare;
 pub mod histories;
 pub mod lists;
 pub mod random;
+pub mod sheets;
 pub mod steps;
 pub mod subject;
+pub mod tally;

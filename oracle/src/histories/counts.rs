@@ -1,11 +1,11 @@
 //! What a comparison has reached: a count for each corner of `corners`.
 
-use std::collections::HashMap;
 use std::fmt;
 
 use super::corners::{NEVER, SET_UP, names};
 use super::{Answers, History};
 use crate::subject::{self, MINIMUMS_FROM};
+use crate::tally::{Tally, missed};
 
 /// How often a comparison has to reach each corner.
 const LEAST: u64 = 1_000;
@@ -13,11 +13,9 @@ const LEAST: u64 = 1_000;
 pub struct Counts {
     histories: u64,
     calls: u64,
-    /// The corners in the order of their names; the first ones are required.
-    corners: Vec<(String, u64)>,
+    /// The first ones are required; the others are never reached.
+    corners: Tally,
     required: usize,
-    /// Where each corner stands in `corners`.
-    places: HashMap<String, usize>,
 }
 
 impl Default for Counts {
@@ -29,8 +27,7 @@ impl Default for Counts {
         Self {
             histories: 0,
             calls: 0,
-            places: names.iter().cloned().zip(0..).collect(),
-            corners: names.into_iter().map(|name| (name, 0)).collect(),
+            corners: Tally::new(names),
             required,
         }
     }
@@ -41,23 +38,21 @@ impl subject::Counts<History, Answers> for Counts {
         self.histories += 1;
         self.calls += history.calls.len() as u64;
         for name in &answers.corners {
-            if let Some(place) = self.places.get(name) {
-                self.corners[*place].1 += 1;
-            }
+            self.corners.add(name);
         }
     }
 
     fn missed_minimums(&self) -> Vec<String> {
-        let (required, never) = self.corners.split_at(self.required);
-        let reached = never
+        let (required, never) = self.corners.rows().split_at(self.required);
+        let mut messages: Vec<String> = never
             .iter()
             .filter(|(_, count)| *count > 0)
-            .map(|(name, count)| format!("{name} is {count}, but no history should reach it"));
-        let missed = required
-            .iter()
-            .filter(|(_, count)| self.calls >= MINIMUMS_FROM && *count < LEAST)
-            .map(|(name, count)| format!("{name} is {count}, at least {LEAST} are needed"));
-        reached.chain(missed).collect()
+            .map(|(name, count)| format!("{name} is {count}, but no history should reach it"))
+            .collect();
+        if self.calls >= MINIMUMS_FROM {
+            messages.extend(missed(required, LEAST));
+        }
+        messages
     }
 }
 
@@ -65,10 +60,7 @@ impl fmt::Display for Counts {
     fn fmt(&self, f: &mut fmt::Formatter<'_>) -> fmt::Result {
         writeln!(f, "histories {}", self.histories)?;
         writeln!(f, "calls {}", self.calls)?;
-        for (name, count) in &self.corners {
-            writeln!(f, "{name} {count}")?;
-        }
-        Ok(())
+        write!(f, "{}", self.corners)
     }
 }
 
@@ -122,7 +114,7 @@ mod tests {
     #[test]
     fn a_corner_that_no_history_should_reach_is_a_failure() {
         let mut counts = counts_of(TEXT);
-        counts.corners.last_mut().unwrap().1 = 1;
+        counts.corners.add("walk_at_an_isolated_one");
         let message = "walk_at_an_isolated_one is 1, but no history should reach it";
         assert_eq!(counts.missed_minimums(), [message]);
     }

@@ -81,6 +81,11 @@ impl Stepwise {
         self.queue.len()
     }
 
+    /// The events that the last call has taken.
+    pub fn call_taken(&self) -> usize {
+        self.call_taken
+    }
+
     pub fn into_corners(self) -> Vec<String> {
         self.corners
     }

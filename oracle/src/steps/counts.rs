@@ -1,28 +1,22 @@
 //! What a comparison has reached: a count for each row of `rows`.
 
-use std::collections::HashMap;
 use std::fmt;
 
 use super::rows::{names, reached};
 use super::{Answer, Case};
 use crate::subject::{self, MINIMUMS_FROM};
+use crate::tally::{Tally, missed};
 
 pub struct Counts {
     steps: u64,
-    /// The rows in the order of their names.
-    rows: Vec<(String, u64)>,
-    /// Where each row stands in `rows`.
-    places: HashMap<String, usize>,
+    rows: Tally,
 }
 
 impl Default for Counts {
     fn default() -> Self {
-        let names = names();
-        let places = names.iter().cloned().zip(0..).collect();
         Self {
             steps: 0,
-            rows: names.into_iter().map(|name| (name, 0)).collect(),
-            places,
+            rows: Tally::new(names()),
         }
     }
 }
@@ -31,9 +25,7 @@ impl subject::Counts<Case, Answer> for Counts {
     fn record(&mut self, case: &Case, answer: &Answer) {
         self.steps += 1;
         for name in reached(case, answer) {
-            let place = self.places.get(&name);
-            let place = *place.unwrap_or_else(|| panic!("{name} is not a row"));
-            self.rows[place].1 += 1;
+            assert!(self.rows.add(&name), "{name} is not a row");
         }
     }
 
@@ -41,21 +33,13 @@ impl subject::Counts<Case, Answer> for Counts {
         if self.steps < MINIMUMS_FROM {
             return Vec::new();
         }
-        self.rows
-            .iter()
-            .filter(|(_, count)| *count == 0)
-            .map(|(name, _)| format!("{name} is 0, at least 1 is needed"))
-            .collect()
+        missed(self.rows.rows(), 1)
     }
 }
 
 impl fmt::Display for Counts {
     fn fmt(&self, f: &mut fmt::Formatter<'_>) -> fmt::Result {
-        writeln!(f, "steps {}", self.steps)?;
-        for (name, count) in &self.rows {
-            writeln!(f, "{name} {count}")?;
-        }
-        Ok(())
+        write!(f, "steps {}\n{}", self.steps, self.rows)
     }
 }
 
@@ -93,8 +77,9 @@ mod tests {
         let mut counts = counts_of(LINE);
         counts.steps = MINIMUMS_FROM;
         let missed = counts.missed_minimums();
-        assert!(missed.contains(&"pair_0_1 is 0, at least 1 is needed".to_string()));
-        let reached = counts.rows.iter().filter(|(_, count)| *count > 0).count();
-        assert_eq!(missed.len(), counts.rows.len() - reached);
+        assert!(missed.contains(&"pair_0_1 is 0, needed: at least 1".to_string()));
+        let rows = counts.rows.rows();
+        let reached = rows.iter().filter(|(_, count)| *count > 0).count();
+        assert_eq!(missed.len(), rows.len() - reached);
     }
 }

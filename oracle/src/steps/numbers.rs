@@ -9,13 +9,13 @@ use openprot_orchestrator_sm::{BootFailureKind, ComponentId, Effect, Event, Powe
 pub const STATES: usize = 7;
 pub const EVENTS: usize = 18;
 
-const POWER_ON_RESULTS: [PowerOnResult; 3] = [
+pub const POWER_ON_RESULTS: [PowerOnResult; 3] = [
     PowerOnResult::Provisioned,
     PowerOnResult::Unprovisioned,
     PowerOnResult::SelfVerificationFailed,
 ];
 
-const BOOT_FAILURE_KINDS: [BootFailureKind; 3] = [
+pub const BOOT_FAILURE_KINDS: [BootFailureKind; 3] = [
     BootFailureKind::TimedOut,
     BootFailureKind::DeviceRetriable,
     BootFailureKind::DeviceFatal,
