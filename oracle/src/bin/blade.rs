@@ -2,28 +2,12 @@
 //! effects and states come from the Rust's `dispatch_with`; the numbers of the
 //! refused calls come from document 01.
 
-use std::fmt::Debug;
-
 use openprot_orchestrator_sm::{
     Chain, ComponentAttrs, ComponentId, Effect, Event, Orchestrator, PowerOnResult,
 };
+use oracle::sheets::text;
 
 type Rust = Orchestrator<256, 514>;
-
-/// A line of the transcript: the name, then the numbers, parted by tabs.
-fn line(kind: char, value: &impl Debug) -> String {
-    let text = format!("{value:?}");
-    let name: String = text.chars().take_while(|c| c.is_alphanumeric()).collect();
-    let numbers = text
-        .split(|c: char| !c.is_ascii_digit())
-        .filter(|part| !part.is_empty());
-    let mut out = format!("{kind}\t{name}");
-    for number in numbers {
-        out.push('\t');
-        out.push_str(number);
-    }
-    out
-}
 
 /// What the board says to an effect: firmware that it is to verify passes.
 fn follow_up(effect: Effect) -> Option<Event> {
@@ -35,7 +19,7 @@ fn follow_up(effect: Effect) -> Option<Event> {
 
 fn drive(machine: &mut Rust, event: Event) {
     machine.dispatch_with(event, |effect| {
-        println!("{}", line('X', &effect));
+        println!("X\t{}", text::effect(&effect));
         Ok(follow_up(effect))
     });
 }
@@ -67,7 +51,7 @@ fn main() {
     ];
     for event in before {
         drive(&mut machine, event);
-        println!("{}", line('S', &machine.state()));
+        println!("S\t{}", text::state(machine.state()));
     }
     let isolated = (0..4).filter(|&p| machine.status(p).isolated);
     let word: u64 = isolated.clone().map(|p| 1 << p).sum();
@@ -78,12 +62,12 @@ fn main() {
         Event::BootConfirmed(one),
     ] {
         drive(&mut machine, event);
-        println!("{}", line('S', &machine.state()));
+        println!("S\t{}", text::state(machine.state()));
     }
     // An event is begun and its effect left waiting: a second begin is refused.
     println!("begin\t10");
     drive(&mut machine, Event::AttestationChallenge);
     // Nothing waits any more: a reply is refused.
     println!("reply\t7");
-    println!("{}", line('S', &machine.state()));
+    println!("S\t{}", text::state(machine.state()));
 }
