@@ -12,7 +12,7 @@ use crate::compare::{MOST_DIFFERENCES, Outcome};
 use crate::subject::Counts as _;
 
 /// The bytes of a sheet that a difference shows.
-const SHOWN: usize = 4_000;
+const SHOWN: usize = 1_500;
 
 /// Compares `count` sheets.
 pub fn compare(seed: u64, count: usize, programs: &Programs) -> io::Result<Outcome<Counts>> {

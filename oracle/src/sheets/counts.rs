@@ -11,8 +11,8 @@ use crate::subject;
 use crate::tally::{Tally, missed};
 
 /// From this many sheets on, a comparison must reach each row so often.
-const MINIMUMS_FROM: u64 = 10_000;
-const LEAST: u64 = 20;
+const MINIMUMS_FROM: u64 = 20_000;
+const LEAST: u64 = 5;
 
 /// Corners that step calls reach and sheets do not.
 const CALLS_ALONE: [&str; 6] = [

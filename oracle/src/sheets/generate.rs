@@ -61,17 +61,17 @@ pub fn cases(seed: u64) -> impl Iterator<Item = Case> {
 fn draw_case(random: &mut SplitMix64, history: &History) -> Case {
     let (text, source) = match random.below(1_000) {
         0..=3 => (too_long(random), TOO_LONG),
-        4..=7 => (
+        4..=10 => (
             long_transcript(random).to_string().into_bytes(),
             LONG_TRANSCRIPT,
         ),
-        8..=12 => (many_components(random), MANY_COMPONENTS),
-        13..=42 => {
+        11..=15 => (many_components(random), MANY_COMPONENTS),
+        16..=45 => {
             let mut sheet = of_history(random, history);
             sheet.lines.clear();
             (sheet.to_string().into_bytes(), WITHOUT_EVENTS)
         }
-        43..=400 => {
+        46..=400 => {
             let mut text = of_history(random, history).to_string().into_bytes();
             let name = damage(random, &mut text);
             (text, name)
@@ -227,8 +227,9 @@ fn long_transcript(random: &mut SplitMix64) -> Sheet {
         Line::Event(Event::PowerGood(PowerOnResult::Provisioned)),
         Line::Event(Event::VerificationPassed(first)),
     ];
-    let mut bytes = random.between(0, 3_000);
-    while bytes < PROGRAM_BYTES {
+    let most = random.between(PROGRAM_BYTES - 2_000, PROGRAM_BYTES + 2_000);
+    let mut bytes = 0;
+    while bytes < most {
         let (event, transcript) = random.pick(&LONG_EVENTS);
         lines.push(Line::Event(event));
         bytes += transcript;

@@ -1,6 +1,6 @@
-//! Compares check and run of the static library with the oracle: on every
-//! generated sheet, with every limit and every length of the buffer where the
-//! transcript is short.
+//! Compares check and run of the static library with the oracle: on generated
+//! sheets, with every length of the buffer and every limit where the transcript
+//! is short.
 
 use std::ffi::OsStr;
 use std::fmt;
@@ -22,10 +22,12 @@ pub trait Library {
     fn run(&self, sheet: &[u8], out: &mut [u8], limit: u64) -> Answer;
 }
 
-/// Transcripts of at most so many bytes get every limit and every length.
+/// Where there are at most so many pairs of a length and a limit, each is taken.
+const PAIRED: usize = 800;
+/// Transcripts of at most so many bytes get every length and every limit.
 const SWEPT: usize = 600;
-/// Other sheets get so many limits and lengths.
-const DRAWN: usize = 12;
+/// Every sheet gets so many lengths and limits that are drawn.
+const DRAWN: usize = 4;
 /// The bytes behind the buffer that have to stay as they are.
 const GUARD: usize = 64;
 /// What follows the sheet in memory. A reader that goes past the sheet's end
@@ -54,7 +56,7 @@ pub struct Counts {
 
 impl Default for Counts {
     fn default() -> Self {
-        let mut names: Vec<String> = ["checks", "runs", "sheets_swept"].map(String::from).into();
+        let mut names: Vec<String> = CALLS.map(String::from).into();
         names.extend((0..=9).map(|number| format!("run_gave_{number}")));
         names.extend(STOPS.map(String::from));
         Self {
@@ -70,27 +72,34 @@ impl fmt::Display for Counts {
     }
 }
 
-/// Where a run can be stopped by 8 or 9.
-const STOPS: [&str; 5] = [
-    "stopped_before_an_X_line",
-    "stopped_before_an_S_line",
-    "stopped_before_a_T_line",
-    "stopped_before_the_event_of_an_E_line",
-    "stopped_before_a_queued_event",
+const CALLS: [&str; 4] = [
+    "checks",
+    "runs",
+    "sheets_with_every_pair",
+    "sheets_with_every_length_and_every_limit",
 ];
+
+const BEFORE_X: &str = "stopped_before_an_X_line";
+const BEFORE_S: &str = "stopped_before_an_S_line";
+const BEFORE_T: &str = "stopped_before_a_T_line";
+const BEFORE_BEGUN: &str = "stopped_before_the_event_of_an_E_line";
+const BEFORE_QUEUED: &str = "stopped_before_a_queued_event";
+
+/// Where a run can be stopped by 8 or 9.
+const STOPS: [&str; 5] = [BEFORE_X, BEFORE_S, BEFORE_T, BEFORE_BEGUN, BEFORE_QUEUED];
 
 /// Where the run is stopped, if the moment at `place` does not happen.
 fn stop(recording: &Recording, place: usize) -> Option<&'static str> {
-    let after_an_event = match &recording.moments[..place] {
+    let begins = match &recording.moments[..place] {
         [.., Moment::Line(line)] => line.starts_with('S'),
         moments => moments.is_empty(),
     };
     Some(match recording.moments.get(place)? {
-        Moment::Line(line) if line.starts_with('X') => STOPS[0],
-        Moment::Line(line) if line.starts_with('S') => STOPS[1],
-        Moment::Line(_) => STOPS[2],
-        Moment::Taken if after_an_event => STOPS[3],
-        Moment::Taken => STOPS[4],
+        Moment::Line(line) if line.starts_with('X') => BEFORE_X,
+        Moment::Line(line) if line.starts_with('S') => BEFORE_S,
+        Moment::Line(_) => BEFORE_T,
+        Moment::Taken if begins => BEFORE_BEGUN,
+        Moment::Taken => BEFORE_QUEUED,
     })
 }
 
@@ -134,7 +143,7 @@ impl<L: Library> Comparison<'_, L> {
     fn sheet(&mut self, index: usize, case: &Case) {
         self.outcome.counts.sheets += 1;
         let recording = Recording::of(&case.text);
-        let mut calls = Calls {
+        let calls = Calls {
             library: self.library,
             memory: [&case.text, BEHIND].concat(),
             length: case.text.len(),
@@ -169,22 +178,27 @@ impl<L: Library> Comparison<'_, L> {
     /// The lengths and limits that a sheet is run with: those of the programs,
     /// then up to one past what the run needs.
     fn pairs(&mut self, calls: &Calls<L>) -> Vec<(usize, u64)> {
-        let whole = calls.recording.stopped(usize::MAX, u64::MAX).0;
-        let (bytes, settled) = (calls.transcript.len(), whole.settled);
+        let bytes = calls.transcript.len();
+        let settled = calls.recording.stopped(usize::MAX, u64::MAX).0.settled;
+        let (lengths, limits) = (0..=bytes + 1, 0..=settled + 1);
         let mut pairs = vec![
             (PROGRAM_BYTES, PROGRAM_LIMIT),
             (bytes, settled),
             (bytes + 1, u64::MAX),
         ];
-        if bytes <= SWEPT {
-            self.add("sheets_swept");
-            pairs.extend((0..=bytes + 1).map(|buffer| (buffer, settled)));
-            pairs.extend((0..=settled + 1).map(|limit| (bytes, limit)));
+        if bytes > 0 && (bytes + 2) * (settled as usize + 2) <= PAIRED {
+            self.add("sheets_with_every_pair");
+            let with_every_limit = |length| limits.clone().map(move |limit| (length, limit));
+            pairs.extend(lengths.clone().flat_map(with_every_limit));
+        } else if bytes > 0 && bytes <= SWEPT {
+            self.add("sheets_with_every_length_and_every_limit");
+            pairs.extend(lengths.clone().map(|length| (length, settled)));
+            pairs.extend(limits.clone().map(|limit| (bytes, limit)));
         }
         for _ in 0..DRAWN {
-            let buffer = self.random.between(0, bytes + 1);
+            let length = self.random.between(0, bytes + 1);
             let limit = self.random.between(0, settled as usize + 1) as u64;
-            pairs.extend([(buffer, limit), (buffer, u64::MAX), (bytes + 1, limit)]);
+            pairs.extend([(length, limit), (length, u64::MAX), (bytes + 1, limit)]);
         }
         pairs
     }
@@ -201,13 +215,13 @@ struct Calls<'a, L> {
 }
 
 impl<L: Library> Calls<'_, L> {
-    fn check(&mut self) -> Option<String> {
+    fn check(&self) -> Option<String> {
         let answer = self.library.check(&self.memory[..self.length]);
         let expected = self.recording.checked();
         (answer != expected).then(|| format!("check gave {answer:?}\noracle {expected:?}"))
     }
 
-    fn run(&mut self, buffer: usize, limit: u64) -> Option<String> {
+    fn run(&self, buffer: usize, limit: u64) -> Option<String> {
         let (expected, _) = self.recording.stopped(buffer, limit);
         let mut memory: Vec<u8> = (0..buffer + GUARD).map(fill).collect();
         let sheet = &self.memory[..self.length];
@@ -282,7 +296,7 @@ mod tests {
         }
     }
 
-    const COUNT: usize = 300;
+    const COUNT: usize = 130;
 
     #[test]
     fn a_library_that_is_right_has_no_difference() {
