@@ -2,8 +2,8 @@
  *
  * They are in libsheet.a, for x86-64. Neither call uses the heap or keeps
  * anything between calls, so calls may come from several threads at once. A call
- * reads the sheet, writes to out alone, and always returns. It needs stack: see
- * docs/TESTING.md for the figure, and tests/sheets for the bound that it is held to.
+ * reads the sheet, writes to out alone, and always returns. It needs less than
+ * 256 KiB of stack; docs/TESTING.md has the figure that was measured.
  *
  * A buffer is a pointer and a length in bytes. The two buffers of run must not
  * overlap. With the length 0 the pointer may be NULL.
