@@ -23,16 +23,12 @@ use Rattle.lines.specs.Read.{withDependency, withRegion, withPolicy, withKind, 
 use Rattle.reader.specs.Read.{pieces, rowsOf, rowsIn, badFrom, badLine, retryFrom, retryIn, cardsOf, cardsIn}
 use Rattle.printed.specs.Transcript.{effectText, stateText, lifecycleText, flagText, statusText, effectLine, stateLine, statusLine}
 use Rattle.driver.specs.Run.{Setting, Point, Progress, transcript, startPoint, stepFrom, recorded, steps, toDo, runFrom}
+use Rattle.driver.proofs.Going.{steps-stay}
 use Rattle.sheet.specs.Sheet.{chainIn, ended, checkOf, progressOf, runOf}
 use Rattle.model.specs.Vocabulary.{pick}
 use Rattle.rows.specs.Rows.{Run·of, Answer, text, tLines, calls, shown, answerTo, sheet, Row, tenRows, Right}
 
 -- ---- A run that has ended
-
-rests : (s : Setting) (room n : ℕ) (p : Progress) → p .point .going ≡ false → steps s room n p ≡ p
-unfolding steps
-rests s room zero p e = refl
-rests s room (suc n) p e = ap (λ (b : Bool). pick b (steps s room n (recorded room (p .said) (stepFrom s (p .point)))) p) e
 
 either : (b : Bool) (p few many : Progress) → (few .point .going ≡ false → many ≡ few) → pick b few p .point .going ≡ false → pick b many p ≡ pick b few p
 either true p few many same e = same e
@@ -40,7 +36,7 @@ either false p few many same e = refl
 
 longer : (s : Setting) (room n k : ℕ) (p : Progress) → n ≤ k → steps s room n p .point .going ≡ false → steps s room k p ≡ steps s room n p
 unfolding steps
-longer s room zero k p h e = rests s room k p e
+longer s room zero k p h e = steps-stay s room k p e
 longer s room (suc n) zero p h e = absurd (omega arith)
 longer s room (suc n) (suc k) p h e =
     let q = recorded room (p .said) (stepFrom s (p .point)) in
