@@ -1,6 +1,7 @@
 /* The two calls that a board makes: mallardtray_check and mallardtray_run.
  *
- * They are in libsheet.a, for x86-64. Neither call uses the heap or keeps
+ * They are in libsheet.a, for x86-64; of the C library it needs memcpy, memmove
+ * and memset alone. Neither call uses the heap or keeps
  * anything between calls, so calls may come from several threads at once. A call
  * reads the sheet, writes to out alone, and always returns. It needs less than
  * 256 KiB of stack; docs/TESTING.md has the figure that was measured.
@@ -14,15 +15,17 @@
 #include <stddef.h>
 #include <stdint.h>
 
-/* number is 0, or the first question below whose answer is no. Places that are
- * not named are 0.
+/* number is 0, or the question below whose answer is no. 1 to 4 are put in this
+ * order; then 5 and 6 are put together, entry by entry; then the sheet is run,
+ * and 7 to 9 come where the run meets them. Places that are not named are 0.
  *
  *   1  Is every line as it should be, the last one ended by byte 10?
  *      place: the first bad line, from 1. An empty sheet has line 1 bad.
  *   2  Is there a component?
  *   3  Are there at most 255 components?
  *   4  Is each id new? place: the id at the first entry that repeats one.
- *   5  Is each dependency in the chain? place: component, other: dependency.
+ *   5  Is this entry's dependency in the chain? place: component, other:
+ *      dependency.
  *   6  Does it stand earlier? place: component, other: dependency.
  *   7  Does an effect wait for this reply? place: the line of the reply, from 1.
  *   8  Does the next line of the transcript fit into out?

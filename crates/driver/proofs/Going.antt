@@ -105,7 +105,7 @@ module _ (s out : List ℕ) (limit : ℕ) (c₀ : Cursor) where
     long = ap length (g .buffer) ∙ length-over out (transcript (g .said)) (g .within)
 
     -- The run has ended.
-    pub ends : c .going ≡ false → Ran out (runFrom setting (length out) (seen s c₀)) c here
+    pub ends : c .going ≡ false → Ran out (runFrom setting (length out) (seen s c₀)) (record { number = c .number; place = c .place; settled = c .settled; written = c .written }) here
     unfolding seen
     ends h =
         let x : runFrom setting (length out) (seen s c₀) ≡ record { point = seen s c; said = g .said } = g .run ∙ steps-stay setting (length out) (g .left) record { point = seen s c; said = g .said } h in

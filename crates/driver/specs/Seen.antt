@@ -12,7 +12,8 @@ use Rattle.settling.specs.View.{view, chainOf, Whole}
 use Rattle.reader.specs.Read.{rowsIn}
 use Rattle.driver.specs.declared.Cursor.{Cursor}
 use Rattle.driver.specs.declared.Move.{Move}
-use Rattle.driver.specs.Run.{Setting, Point, Step, Progress, transcript, startPoint, runFrom}
+use Rattle.driver.specs.declared.End.{End}
+use Rattle.driver.specs.Run.{Setting, Point, Step, Progress, transcript, runFrom}
 
 unfoldable pub seen : List ℕ → Cursor → Point
 seen s c = record { machine = view (c .machine); rows = rowsIn (drop (c .at) s); line = c .line; work = c .work; settled = c .settled; told = c .told; going = c .going; number = c .number; place = c .place }
@@ -48,8 +49,8 @@ wrote c Full = record { machine = c .machine; at = c .at; line = c .line; work =
 abbrev pub runOn : List ℕ → ℕ → ℕ → Machine → Progress
 runOn s room limit m = runFrom (settingOf limit m) room record { machine = view m; rows = rowsIn s; line = 1; work = 0; settled = 0; told = 0; going = true; number = 0; place = 0 }
 
--- r is where the run x ended, and the buffer is out with its transcript at the start.
-pub record Ran (out : List ℕ) (x : Progress) (r : Cursor) (exit : List ℕ) : Type 0 where
+-- r is how the run x ended, and the buffer is out with its transcript at the start.
+pub record Ran (out : List ℕ) (x : Progress) (r : End) (exit : List ℕ) : Type 0 where
   pub ended : x .point .going ≡ false
   pub number : r .number ≡ x .point .number
   pub place : r .place ≡ x .point .place

@@ -46,6 +46,14 @@ pub struct Move {
     pub line: Line,
 }
 
+// How a run ended: its number and place, events settled, bytes written.
+pub struct End {
+    pub number: u64,
+    pub place: u64,
+    pub settled: u64,
+    pub written: usize,
+}
+
 fn due(m: Machine) -> Stage
     requires { ⌜ Whole m ⌝ }
     ensures { λ r. ⌜ r ≡ stageOf (view m) ⌝ }
@@ -216,7 +224,7 @@ fn tell(c: Cursor) -> Move
     }
 }
 
-// The event of the E line at this line is queued.
+// The event of an E line is queued; `line` is the number of that line.
 fn begin(c: Cursor, event: Event, line: usize) -> Cursor
     requires { ⌜ Whole (c .machine) ⌝ }
     ensures { λ r. ⌜ ((s : List ℕ) → Stands s c → Moved s c (workIs line (machineIs (enqueue event (seen s c .machine)) (seen s c))) r) ⌝ }
@@ -289,7 +297,7 @@ fn record_line(c: Cursor, room: Room) -> Cursor
 }
 
 // The run of a sheet on a machine that `new` made for it, into a lent buffer.
-pub fn drive(sheet: &[u8], out: &mut [u8], limit: u64, machine: Machine) -> Cursor
+pub fn drive(sheet: &[u8], out: &mut [u8], limit: u64, machine: Machine) -> End
     requires { ⌜ Whole machine ⌝ }
     ensures { λ r. ⌜ Ran (now (out .entry)) (runOn (now (sheet .entry)) (length (now (out .entry))) limit machine) r (now (out .exit)) ⌝ }
 {
@@ -313,5 +321,10 @@ pub fn drive(sheet: &[u8], out: &mut [u8], limit: u64, machine: Machine) -> Curs
         let room = text::append(out, at, line);
         c = record_line(next, room);
     }
-    c
+    End {
+        number: c.number,
+        place: c.place,
+        settled: c.settled,
+        written: c.written,
+    }
 }

@@ -4,7 +4,7 @@ use mathlib.Core.Bool.{Bool, true, false}
 use mathlib.Core.List.{List, [], _∷_, _++_, append-assoc}
 use Prim.Native.Nat.{ℕ, suc, _+_, _-_, _<_, _≤_}
 use native.Mathlib.Omega.{arith}
-use borrow.Author.Tests.{ne-eqb}
+use borrow.Author.Tests.{ne-eqb, lt-ltb, le-ltb}
 use lib.Dec.{eqb}
 use lib.ListN.{length, take, drop, length-append, length-drop, drop-of-length-le}
 use lib.Seq.{drop-drop}
@@ -16,7 +16,7 @@ use Rattle.fields.proofs.Cut.{Without, place-at, before-at, after-at}
 use Rattle.lines.specs.declared.Row.{Row}
 use Rattle.lines.specs.declared.Row.the-variants.{Bad}
 use Rattle.lines.specs.Read.{rowOf}
-use Rattle.reader.specs.Read.{joined, pieces, rowsOf, rowsIn, Reads}
+use Rattle.reader.specs.Read.{joined, pieces, rowsOf, rowsIn, Reads, afterLine}
 
 -- A text with a byte 10 is its first piece and the pieces of what follows that byte.
 cut-by : (t : Bool) (x n : ℕ) (l : List ℕ) → pick t 0 (suc n) < suc (length l) → (n < length l → pieces l ≡ take n l ∷ pieces (drop (suc n) l))
@@ -89,7 +89,14 @@ module _ (s : List ℕ) (at : ℕ) (h : at < length s) (m : List ℕ) (w : m ≡
   long : length m ≡ length s - at
   long = ap length w ∙ length-drop at s
 
+  here : n ≡ placeOf 10 (drop at s)
+  here = e ∙ ap (placeOf 10) w
+
+  size : length m ≡ length (drop at s)
+  size = ap length w
+
   pub reads-line : (n ≡ length m → ⊥) → (r : Row) → r ≡ rowOf (take n m) → Reads s at (record { row = r; after = at + n + 1 })
+  unfolding afterLine
   reads-line f r p =
       let g : n < length m = omega (arith, place-le 10 m) in
       let on : at + suc n ≡ at + n + 1 = omega arith in
@@ -99,16 +106,19 @@ module _ (s : List ℕ) (at : ℕ) (h : at < length s) (m : List ℕ) (w : m ≡
             ∙ ap (λ (i : ℕ). rowOf (take i m) ∷ rowsIn (drop (suc i) m)) (sym e)
             ∙ ap (λ (x : List ℕ). rowOf (take n m) ∷ rowsIn x) (ap (drop (suc n)) w ∙ drop-drop (suc n) at s ∙ ap (λ (i : ℕ). drop i s) on)
             ∙ ap (λ (x : Row). x ∷ rowsIn (drop (at + n + 1) s)) (sym p);
+        place = sym (ap (λ (b : Bool). pick b (at + placeOf 10 (drop at s) + 1) (length s)) (lt-ltb (placeOf 10 (drop at s)) (length (drop at s)) (omega (arith, g, here, size))) ∙ ap (λ (i : ℕ). at + i + 1) (sym here));
         onward = omega arith;
         within = omega (arith, long);
       }
 
   pub reads-open : n ≡ length m → Reads s at (record { row = Bad; after = length s })
+  unfolding afterLine
   reads-open f =
       record {
         row =
             ap rowsIn (sym w) ∙ rows-open m (omega arith) (omega (arith, long))
             ∙ ap (λ (x : List Row). Bad ∷ x) (sym (rows-past s (length s) (omega arith)));
+        place = sym (ap (λ (b : Bool). pick b (at + placeOf 10 (drop at s) + 1) (length s)) (le-ltb (placeOf 10 (drop at s)) (length (drop at s)) (omega (arith, f, here, size))));
         onward = h;
         within = omega arith;
       }

@@ -2,13 +2,14 @@
 use mathlib.Core.Path.{_≡_}
 use mathlib.Core.Bool.{Bool, true, false}
 use mathlib.Core.List.{List, [], _∷_}
-use Prim.Native.Nat.{ℕ, suc, _<_, _≤_}
-use lib.Dec.{eqb}
+use Prim.Native.Nat.{ℕ, suc, _+_, _<_, _≤_}
+use lib.Dec.{eqb, ltb}
 use lib.ListN.{length, drop}
 use Rattle.model.specs.Vocabulary.{pick}
 use Rattle.model.specs.declared.Component.{Component}
 use Rattle.components.specs.declared.ComponentList.{ComponentList}
 use Rattle.components.specs.Chain.{noEntries, pushed}
+use Rattle.fields.specs.Fields.{placeOf}
 use Rattle.lines.specs.declared.Row.{Row}
 use Rattle.lines.specs.declared.Row.the-variants.{Retry, Card, Begin, Answer, Bad}
 use Rattle.lines.specs.Read.{rowOf}
@@ -128,9 +129,14 @@ unfoldable pub pushedAll : ComponentList → List Component → ComponentList
 pushedAll l [] = l
 pushedAll l (c ∷ cs) = pushedAll (pushed l c) cs
 
--- The line at a place of the sheet, and the place after it.
+-- The place after the line that begins at a place: behind its byte 10, or the end of the sheet where it is not ended.
+unfoldable pub afterLine : List ℕ → ℕ → ℕ
+afterLine s at = pick (ltb (placeOf 10 (drop at s)) (length (drop at s))) (at + placeOf 10 (drop at s) + 1) (length s)
+
+-- What the line at a place of the sheet says, and the place after it.
 pub record Reads (s : List ℕ) (at : ℕ) (r : Next) : Type 0 where
   pub row : rowsIn (drop at s) ≡ r .row ∷ rowsIn (drop (r .after) s)
+  pub place : r .after ≡ afterLine s at
   pub onward : at < r .after
   pub within : r .after ≤ length s
 

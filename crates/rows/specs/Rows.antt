@@ -4,8 +4,9 @@ use mathlib.Core.Bool.{false}
 use mathlib.Core.List.{List, [], _∷_, _++_, map}
 use Prim.Native.Nat.{ℕ, zero, suc, _+_}
 use Prim.Native.String.{String}
+use lib.Dec.{eqb}
 use lib.ListN.{length, take}
-use Rattle.model.specs.Vocabulary.{idOf, plainAttrs, dependingOn}
+use Rattle.model.specs.Vocabulary.{pick, idOf, plainAttrs, dependingOn}
 use Rattle.model.specs.declared.Component.{Component}
 use Rattle.model.specs.declared.ComponentKind.the-variants.{Active}
 use Rattle.model.specs.declared.FailurePolicy.{FailurePolicy}
@@ -64,9 +65,9 @@ tLines (c ∷ cs) [] = []
 tLines (c ∷ cs) (s ∷ ss) = Told (c .id) s ∷ tLines cs ss
 
 -- What a step call gave, put before what the calls after it give: an X line if an effect waits. If none does it was the last
--- call: its number is the answer's, and an S line and the T lines end the transcript.
+-- call: an S line and the T lines end the transcript. The number is the first that is not 0.
 abbrev pub calledBy : List Component → Expected → Outcome → Waiting → Outcome
-calledBy ch r o (Handed x) = record { number = o .number; place = 0; other = 0; settled = length (r .settled) + o .settled; said = Effected x ∷ o .said }
+calledBy ch r o (Handed x) = record { number = pick (eqb (r .number) 0) (o .number) (r .number); place = 0; other = 0; settled = length (r .settled) + o .settled; said = Effected x ∷ o .said }
 calledBy ch r o Nothing = record { number = r .number; place = 0; other = 0; settled = length (r .settled); said = Settled·in (r .machine .core .state) ∷ tLines ch (r .machine .core .statuses) }
 
 -- What a step call gave and what at most n - 1 more give, each of which answers Done to the effect that waits. Where they are
@@ -92,7 +93,7 @@ answerTo (Begin·on ch max c e) = shown (calls ch max 6 (beginOf ch max (resting
 
 -- ---- The table
 
--- What 01 leaves free is Active, region 0 and no dependency.
+-- What 01 leaves free is Active, Required, region 0 and no dependency.
 abbrev pub component : ℕ → FailurePolicy → Component
 component n p = record { id = idOf n; attrs = plainAttrs Active p }
 

@@ -23,7 +23,7 @@ use Rattle.sm.specs.Gives.{Fresh}
 use Rattle.reader.specs.declared.Sheet.{Sheet}
 use Rattle.reader.specs.Read.{rowsIn, badLine, retryIn, cardsIn, pushedAll, Whole}
 use Rattle.reader.proofs.Kept.{kept-cards, kept-verdict}
-use Rattle.driver.specs.declared.Cursor.{Cursor}
+use Rattle.driver.specs.declared.End.{End}
 use Rattle.driver.specs.Run.{Entry, Setting, Point, Progress, transcript, startPoint, runFrom}
 use Rattle.driver.specs.Seen.{runOn, Ran}
 use Rattle.sheet.specs.declared.Answer.{Answer}
@@ -141,7 +141,7 @@ module _ (s out : List ℕ) (limit : ℕ) where
       }
 
   -- None of them does.
-  pub ended-run : checkOf s .number ≡ 0 → (x : Progress) → x ≡ progressOf s (length out) limit → (e : Cursor) (exit : List ℕ) → Ran out x e exit
+  pub ended-run : checkOf s .number ≡ 0 → (x : Progress) → x ≡ progressOf s (length out) limit → (e : End) (exit : List ℕ) → Ran out x e exit
       → RunGives s out limit (record { number = e .number; place = e .place; other = 0; written = e .written; settled = e .settled }) exit
   unfolding runOf numbersOf
   ended-run h x p e exit g =
