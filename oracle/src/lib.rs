@@ -8,6 +8,7 @@ pub mod histories;
 pub mod lists;
 pub mod random;
 pub mod sheets;
+pub mod small;
 pub mod steps;
 pub mod subject;
 pub mod tally;

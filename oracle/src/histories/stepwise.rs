@@ -29,8 +29,9 @@ pub struct Stepwise {
     place: usize,
     waiting: Option<Effect>,
     failures: usize,
-    /// The events taken in this dispatch, and those taken in this call.
-    dispatch_taken: usize,
+    /// The events taken since the last begin, each with the machine before it,
+    /// and the number of those taken in this call.
+    taken: Vec<(Machine, Event)>,
     call_taken: usize,
     /// Whether the machine was set up, and not led to by a history.
     set_up: bool,
@@ -48,7 +49,7 @@ impl Stepwise {
             place: 0,
             waiting: None,
             failures: 0,
-            dispatch_taken: 0,
+            taken: Vec::new(),
             call_taken: 0,
             set_up: false,
             corners: Vec::new(),
@@ -86,6 +87,11 @@ impl Stepwise {
         self.call_taken
     }
 
+    /// The events taken since the last begin, each with the machine before it.
+    pub fn taken(&self) -> &[(Machine, Event)] {
+        &self.taken
+    }
+
     pub fn into_corners(self) -> Vec<String> {
         self.corners
     }
@@ -104,6 +110,7 @@ impl Stepwise {
         for name in begun(&event, self.state(), &self.ids) {
             self.mark(&name);
         }
+        self.taken.clear();
         self.queue.push_back((event, Origin::Begun));
         self.settle();
         0
@@ -242,7 +249,6 @@ impl Stepwise {
         self.batch.extend(sink.effects());
         self.place = 0;
         self.call_taken += 1;
-        self.dispatch_taken += 1;
         let after = self.machine();
         let names = taken(&Taken {
             event,
@@ -254,13 +260,13 @@ impl Stepwise {
         for name in names {
             self.mark(&name);
         }
+        self.taken.push((before, event));
     }
 
     fn end(&mut self) {
-        for name in ended(&self.machine(), self.dispatch_taken) {
+        for name in ended(&self.machine(), self.taken.len()) {
             self.mark(&name);
         }
         self.failures = 0;
-        self.dispatch_taken = 0;
     }
 }
