@@ -52,7 +52,10 @@ fn run<S: Subject>(arguments: &[&OsStr]) -> Result<ExitCode, String> {
         (Some("answer"), []) => done(print_answers::<S>()),
         (Some("generate"), [seed, count]) => {
             let output = BufWriter::new(io::stdout().lock());
-            done(write_cases::<S>(output, number(seed)?, number(count)?))
+            done(write_cases(
+                output,
+                S::cases(number(seed)?).take(number(count)?),
+            ))
         }
         (Some("compare"), [seed, count, port]) => {
             let outcome = compare::<S>(number(seed)?, number(count)?, port);

@@ -4,9 +4,10 @@ use std::ffi::OsStr;
 use std::fmt::Display;
 use std::io::{self, BufRead, BufReader, BufWriter, Write};
 use std::process::{Child, Command, Stdio};
+use std::sync::mpsc::{Sender, channel};
 use std::thread;
 
-use crate::subject::{Counts, Subject};
+use crate::subject::{Compared, Counts, Subject};
 
 /// A comparison ends after this many differences.
 pub const MOST_DIFFERENCES: u64 = 10;
@@ -20,11 +21,21 @@ pub struct Outcome<C> {
     pub failures: Vec<String>,
 }
 
-/// Compares `count` cases. The port gets all of them on its standard input
-/// while its answers are read, so neither side waits for the other for ever.
+/// Compares `count` cases.
 pub fn compare<S: Subject>(
     seed: u64,
     count: usize,
+    port: &OsStr,
+) -> io::Result<Outcome<S::Counts>> {
+    compare_cases::<S, _>(move || S::cases(seed).take(count), port)
+}
+
+/// Compares the cases that `make` gives. The port gets them on its standard
+/// input while its answers are read, so neither side waits for the other for
+/// ever. A case is kept until its answer is read: few are, since a pipe holds
+/// little.
+pub fn compare_cases<S: Compared, I: Iterator<Item = S::Case>>(
+    make: impl FnOnce() -> I + Send + 'static,
     port: &OsStr,
 ) -> io::Result<Outcome<S::Counts>> {
     let mut child = Command::new(port)
@@ -33,9 +44,10 @@ pub fn compare<S: Subject>(
         .spawn()?;
     let input = child.stdin.take().expect("a piped standard input");
     let output = child.stdout.take().expect("a piped standard output");
-    let writer = thread::spawn(move || write_cases::<S>(BufWriter::new(input), seed, count));
+    let (sender, written) = channel();
+    let writer = thread::spawn(move || write_and_send(BufWriter::new(input), make(), &sender));
 
-    let outcome = compare_answers::<S>(BufReader::new(output), seed, count);
+    let outcome = compare_answers::<S>(BufReader::new(output), written);
     let ended = end(
         &mut child,
         outcome.as_ref().is_ok_and(|o| o.failures.is_empty()),
@@ -52,10 +64,25 @@ pub fn compare<S: Subject>(
     Ok(outcome)
 }
 
-/// Prints `count` cases of `seed`, one line each.
-pub fn write_cases<S: Subject>(mut output: impl Write, seed: u64, count: usize) -> io::Result<()> {
-    for case in S::cases(seed).take(count) {
+/// Prints the cases, each on its lines.
+pub fn write_cases(mut output: impl Write, cases: impl Iterator<Item: Display>) -> io::Result<()> {
+    for case in cases {
         writeln!(output, "{case}")?;
+    }
+    output.flush()
+}
+
+/// Prints the cases and sends each on, up to the end or until nobody takes them.
+fn write_and_send<C: Display>(
+    mut output: impl Write,
+    cases: impl Iterator<Item = C>,
+    sender: &Sender<C>,
+) -> io::Result<()> {
+    for case in cases {
+        writeln!(output, "{case}")?;
+        if sender.send(case).is_err() {
+            break;
+        }
     }
     output.flush()
 }
@@ -73,15 +100,13 @@ fn end(child: &mut Child, agreed: bool) -> io::Result<Option<String>> {
     Ok((!status.success()).then(|| format!("the port ended with {status}")))
 }
 
-/// Reads the port's answers and makes the same cases again beside them, so that
-/// no case has to be kept.
-fn compare_answers<S: Subject>(
+/// Reads the port's answers to the cases.
+fn compare_answers<S: Compared>(
     mut port: impl BufRead,
-    seed: u64,
-    count: usize,
+    cases: impl IntoIterator<Item = S::Case>,
 ) -> io::Result<Outcome<S::Counts>> {
     let mut outcome = Outcome::<S::Counts>::default();
-    for case in S::cases(seed).take(count) {
+    for case in cases {
         let answer = S::answer(&case);
         outcome.counts.record(&case, &answer);
         for (index, expected) in answer.to_string().split('\n').enumerate() {
@@ -93,7 +118,7 @@ fn compare_answers<S: Subject>(
             }
             if line != format!("{expected}\n").into_bytes() {
                 outcome.differences += 1;
-                let message = difference(&case, index, expected, &line);
+                let message = difference(&S::lines_up_to(&case, index), expected, &line);
                 outcome.failures.push(message);
                 if outcome.differences == MOST_DIFFERENCES {
                     return Ok(outcome);
@@ -108,15 +133,10 @@ fn compare_answers<S: Subject>(
     Ok(outcome)
 }
 
-/// The case up to its line `index`, and the two answers to that line.
-fn difference(case: &impl Display, index: usize, expected: &str, line: &[u8]) -> String {
-    let case = case.to_string();
-    let asked: Vec<&str> = case.split('\n').take(index + 1).collect();
+/// The lines of a case up to one of them, and the two answers to that one.
+fn difference(asked: &str, expected: &str, line: &[u8]) -> String {
     let port = String::from_utf8_lossy(line);
-    format!(
-        "case {}\noracle {expected}\nport {port:?}",
-        asked.join("\n")
-    )
+    format!("case {asked}\noracle {expected}\nport {port:?}")
 }
 
 #[cfg(test)]
@@ -137,7 +157,9 @@ mod tests {
     }
 
     fn failures<S: Subject>(port: &[u8]) -> Vec<String> {
-        compare_answers::<S>(port, SEED, COUNT).unwrap().failures
+        compare_answers::<S>(port, S::cases(SEED).take(COUNT))
+            .unwrap()
+            .failures
     }
 
     #[test]
@@ -202,7 +224,8 @@ mod tests {
     #[test]
     fn wrong_answers_end_the_comparison_after_ten() {
         let port = b"9 9 9\n".repeat(COUNT);
-        let outcome = compare_answers::<Lists>(port.as_slice(), SEED, COUNT).unwrap();
+        let outcome =
+            compare_answers::<Lists>(port.as_slice(), Lists::cases(SEED).take(COUNT)).unwrap();
         assert_eq!(outcome.differences, MOST_DIFFERENCES);
         assert_eq!(outcome.failures.len(), 10);
     }

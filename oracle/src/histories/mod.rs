@@ -16,7 +16,7 @@ use openprot_orchestrator_sm::{Effect, EffectError, Event};
 
 use crate::lists::{self, List};
 use crate::steps::{self, Case, Machine};
-use crate::subject::Subject;
+use crate::subject::{Compared, Subject};
 
 /// The answer to an effect.
 #[derive(Clone, Copy, PartialEq, Eq, Debug)]
@@ -87,11 +87,18 @@ pub struct Answers {
 /// Histories, as a subject of comparison.
 pub struct Histories;
 
-impl Subject for Histories {
-    const NAME: &'static str = "histories";
+impl Compared for Histories {
     type Case = History;
     type Answer = Answers;
     type Counts = counts::Counts;
+
+    fn answer(history: &History) -> Answers {
+        answer::answer(history)
+    }
+}
+
+impl Subject for Histories {
+    const NAME: &'static str = "histories";
 
     fn begins(line: &str) -> bool {
         line::is_new(line)
@@ -99,10 +106,6 @@ impl Subject for Histories {
 
     fn parse(text: &str) -> Result<History, String> {
         line::parse(text)
-    }
-
-    fn answer(history: &History) -> Answers {
-        answer::answer(history)
     }
 
     fn cases(seed: u64) -> impl Iterator<Item = History> {

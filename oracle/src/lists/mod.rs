@@ -10,7 +10,7 @@ pub mod sample;
 
 use openprot_orchestrator_sm::{ComponentAttrs, ComponentId};
 
-use crate::subject::Subject;
+use crate::subject::{Compared, Subject};
 
 /// The capacity of the chains that the Rust is asked about.
 pub const CAPACITY: usize = 256;
@@ -42,18 +42,21 @@ impl List {
 /// The verdict on a list, as a subject of comparison.
 pub struct Lists;
 
-impl Subject for Lists {
-    const NAME: &'static str = "lists";
+impl Compared for Lists {
     type Case = List;
     type Answer = answer::Answer;
     type Counts = counts::Counts;
 
-    fn parse(line: &str) -> Result<List, String> {
-        line::parse(line)
-    }
-
     fn answer(list: &List) -> answer::Answer {
         answer::answer(list)
+    }
+}
+
+impl Subject for Lists {
+    const NAME: &'static str = "lists";
+
+    fn parse(line: &str) -> Result<List, String> {
+        line::parse(line)
     }
 
     fn cases(seed: u64) -> impl Iterator<Item = List> {

@@ -27,6 +27,18 @@ const POLICIES: [FailurePolicy; 3] = [
     FailurePolicy::Cascading,
 ];
 
+/// The values of max_retry for the chains of `length` components. After a
+/// Restored the retry is at least 1, so that 0 and 1 exhaust recovery alike:
+/// 0 is left out where there are most chains.
+pub fn max_retries(length: usize) -> &'static [u8] {
+    if is_long(length) { &[1, 2] } else { &[0, 1, 2] }
+}
+
+/// Whether a chain of this length is walked with fewer events and replies.
+pub fn is_long(length: usize) -> bool {
+    length == MOST
+}
+
 /// Every chain of 1 to `most` components, the short ones first.
 pub fn chains(most: usize) -> Vec<Vec<Entry>> {
     (1..=most).flat_map(of_length).collect()

@@ -1,9 +1,11 @@
-//! The walk over the machines at rest of one chain, breadth first from `new`.
+//! The walk over the machines at rest of one chain with one max_retry: breadth
+//! first from `new`, up to the fixed point.
 
 use std::collections::HashSet;
 
 use openprot_orchestrator_sm::{Effect, Event};
 
+use super::Visit;
 use super::alphabet::{begun, fed};
 use crate::histories::stepwise::Stepwise;
 use crate::histories::{Call, History, Reply};
@@ -13,96 +15,93 @@ use crate::steps::answer::{Rust, set_up};
 use crate::steps::numbers::event_fields;
 use crate::steps::{Case, Machine};
 
-/// A machine at rest that the walk has reached.
+/// A machine at rest that was reached.
 struct Reached {
     machine: Machine,
-    /// The dispatches that lead here from `new`.
     depth: usize,
-    /// The machine before the last of them, by its place, and its calls.
+    /// The machine before it, by its place, and the calls of the dispatch that
+    /// led on from there.
     last: Option<(usize, Vec<Call>)>,
 }
 
-/// One machine at rest, with everything that is begun from it.
-pub struct Visit {
-    pub history: History,
-    /// The single steps that no earlier visit of this walk has taken.
-    pub steps: Vec<Case>,
-    pub components: usize,
-    pub depth: usize,
-    pub dispatches: u64,
-    pub settled: u64,
-}
-
 pub struct Walk {
-    max_retry: u8,
     entries: Vec<Entry>,
-    alphabet: Vec<Event>,
-    /// No machine is reached by more dispatches than this.
-    length: usize,
-    /// In the order in which they are reached. Those before `next` are visited.
+    max_retry: u8,
+    /// In the order in which they were reached; those before `next` are visited.
     reached: Vec<Reached>,
     next: usize,
+    /// The machines in `reached`, and the single steps taken, by their texts.
     known: HashSet<String>,
     stepped: HashSet<(String, [u16; 4])>,
+    /// Makes the dispatches. The comparison holds it to `dispatch_with`.
     stepwise: Stepwise,
 }
 
 impl Walk {
-    pub fn new(entries: Vec<Entry>, max_retry: u8, length: usize) -> Self {
+    /// The entries are an accepted chain.
+    pub fn new(entries: Vec<Entry>, max_retry: u8) -> Self {
         let rust = Rust::new(chain(&entries).expect("an accepted chain"), max_retry);
-        let stepwise = Stepwise::new(rust, &entries);
-        let first = Reached {
-            machine: stepwise.machine(),
-            depth: 0,
-            last: None,
-        };
-        Self {
-            max_retry,
-            alphabet: begun(&entries),
+        let mut walk = Self {
+            stepwise: Stepwise::new(rust, &entries),
             entries,
-            length,
-            known: HashSet::from([first.machine.to_string()]),
-            reached: vec![first],
+            max_retry,
+            reached: Vec::new(),
             next: 0,
+            known: HashSet::new(),
             stepped: HashSet::new(),
-            stepwise,
+        };
+        walk.reach(walk.stepwise.machine(), 0, None);
+        walk
+    }
+
+    /// A machine at rest, unless it was reached before.
+    fn reach(&mut self, machine: Machine, depth: usize, last: Option<(usize, Vec<Call>)>) {
+        if self.known.insert(machine.to_string()) {
+            self.reached.push(Reached {
+                machine,
+                depth,
+                last,
+            });
         }
     }
 
     /// `new`, and the dispatches that lead to the machine at this place.
     fn path(&self, place: usize) -> Vec<Call> {
         match &self.reached[place].last {
+            Some((before, calls)) => [self.path(*before), calls.clone()].concat(),
             None => vec![Call::New {
                 max_retry: self.max_retry,
                 list: List::whole(self.entries.clone()),
             }],
-            Some((before, calls)) => [self.path(*before), calls.clone()].concat(),
         }
     }
 
     fn visit(&mut self, place: usize) -> Visit {
-        let mut visit = Visit {
-            history: History {
-                calls: self.path(place),
-            },
-            steps: Vec::new(),
-            components: self.entries.len(),
-            depth: self.reached[place].depth,
-            dispatches: 0,
-            settled: 0,
-        };
         let start = self.reached[place].machine.clone();
+        let events = begun(&self.entries, start.state);
+        // Where nothing is begun, the path would only repeat other visits.
+        let to = if events.is_empty() { 0 } else { place };
         let mut from = From {
+            visit: Visit {
+                history: History {
+                    calls: self.path(to),
+                },
+                steps: Vec::new(),
+                entries: self.entries.clone(),
+                max_retry: self.max_retry,
+                depth: self.reached[place].depth,
+                dispatches: 0,
+                settled: 0,
+            },
             walk: self,
             place,
-            start: &start,
+            start,
             moved: false,
-            visit: &mut visit,
         };
-        for event in from.walk.alphabet.clone() {
-            from.event(event);
+        for event in events {
+            from.every_reply(event);
         }
-        visit
+        from.visit
     }
 }
 
@@ -123,29 +122,30 @@ impl Iterator for Walk {
 struct From<'a> {
     walk: &'a mut Walk,
     place: usize,
-    start: &'a Machine,
-    /// Whether the machine at hand is another than the start.
+    start: Machine,
+    /// Whether the last dispatch has left another machine than the start.
     moved: bool,
-    visit: &'a mut Visit,
+    visit: Visit,
 }
 
 impl From<'_> {
-    /// The event with every choice of replies.
-    fn event(&mut self, event: Event) {
+    /// The event with all effects done, with a failure at each of them, and
+    /// with events fed back at each of them.
+    fn every_reply(&mut self, event: Event) {
         let effects = self.dispatch(event, None);
         for (place, effect) in effects.into_iter().enumerate() {
             self.dispatch(event, Some((place, Reply::Failed)));
-            for follow_up in fed(effect, &self.walk.entries) {
+            for follow_up in fed(&self.walk.entries, effect, place == 0) {
                 self.dispatch(event, Some((place, Reply::Then(follow_up))));
             }
         }
     }
 
-    /// One dispatch: every reply is done, but the one at the place that is
-    /// named. Gives the effects.
+    /// One dispatch. Every reply is done but `other`, which is that to the
+    /// effect at the place before it. Gives the effects.
     fn dispatch(&mut self, event: Event, other: Option<(usize, Reply)>) -> Vec<Effect> {
         let walk = &mut *self.walk;
-        let rust = set_up(&walk.entries, walk.max_retry, self.start);
+        let rust = set_up(&walk.entries, walk.max_retry, &self.start);
         walk.stepwise.set_up(rust);
         let mut calls = vec![Call::Begin(event)];
         let mut effects = Vec::new();
@@ -159,37 +159,43 @@ impl From<'_> {
             calls.push(Call::Reply(reply));
             effects.push(effect);
         }
-        self.note(calls);
+        self.note_steps();
+        self.note_calls(calls);
         effects
     }
 
-    fn note(&mut self, calls: Vec<Call>) {
-        let end = self.walk.stepwise.machine();
-        if self.moved {
-            self.visit.history.calls.push(Call::SetUp(self.start.clone()));
-        }
-        self.visit.history.calls.extend(calls.iter().cloned());
-        self.moved = end != *self.start;
-        self.visit.dispatches += 1;
-        self.visit.settled += self.walk.stepwise.taken().len() as u64;
-        for (machine, event) in self.walk.stepwise.taken() {
-            let key = (machine.to_string(), event_fields(event));
-            if self.walk.stepped.insert(key) {
+    /// The single steps of the dispatch that has ended.
+    fn note_steps(&mut self) {
+        let walk = &mut *self.walk;
+        let taken = walk.stepwise.taken();
+        self.visit.settled += taken.len() as u64;
+        for (machine, event) in taken {
+            let step = (machine.to_string(), event_fields(event));
+            if walk.stepped.insert(step) {
                 self.visit.steps.push(Case {
-                    max_retry: self.walk.max_retry,
-                    entries: self.walk.entries.clone(),
+                    max_retry: walk.max_retry,
+                    entries: walk.entries.clone(),
                     machine: machine.clone(),
                     event: *event,
                 });
             }
         }
-        let depth = self.visit.depth + 1;
-        if depth <= self.walk.length && self.moved && self.walk.known.insert(end.to_string()) {
-            self.walk.reached.push(Reached {
-                machine: end,
-                depth,
-                last: Some((self.place, calls)),
-            });
+    }
+
+    /// The calls of the dispatch that has ended, and the machine it left. No
+    /// set-up is needed where the machine at hand is the start still.
+    fn note_calls(&mut self, calls: Vec<Call>) {
+        let visit = &mut self.visit;
+        visit.dispatches += 1;
+        if self.moved {
+            visit.history.calls.push(Call::SetUp(self.start.clone()));
+        }
+        visit.history.calls.extend(calls.iter().cloned());
+        let end = self.walk.stepwise.machine();
+        self.moved = end != self.start;
+        if self.moved {
+            let last = Some((self.place, calls));
+            self.walk.reach(end, self.visit.depth + 1, last);
         }
     }
 }

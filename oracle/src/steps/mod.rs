@@ -13,7 +13,7 @@ pub mod sample;
 use openprot_orchestrator_sm::{ComponentId, Effect, Event, State, Status};
 
 use crate::lists::Entry;
-use crate::subject::Subject;
+use crate::subject::{Compared, Subject};
 
 /// What a step may change, apart from the effects.
 #[derive(Clone, PartialEq, Eq, Debug)]
@@ -51,18 +51,21 @@ pub fn position_of(entries: &[Entry], id: ComponentId) -> Option<usize> {
 /// Single steps, as a subject of comparison.
 pub struct Steps;
 
-impl Subject for Steps {
-    const NAME: &'static str = "steps";
+impl Compared for Steps {
     type Case = Case;
     type Answer = Answer;
     type Counts = counts::Counts;
 
-    fn parse(line: &str) -> Result<Case, String> {
-        line::parse(line)
-    }
-
     fn answer(case: &Case) -> Answer {
         answer::answer(case)
+    }
+}
+
+impl Subject for Steps {
+    const NAME: &'static str = "steps";
+
+    fn parse(line: &str) -> Result<Case, String> {
+        line::parse(line)
     }
 
     fn cases(seed: u64) -> impl Iterator<Item = Case> {
