@@ -101,7 +101,7 @@ fn end(child: &mut Child, agreed: bool) -> io::Result<Option<String>> {
 }
 
 /// Reads the port's answers to the cases.
-fn compare_answers<S: Compared>(
+pub(crate) fn compare_answers<S: Compared>(
     mut port: impl BufRead,
     cases: impl IntoIterator<Item = S::Case>,
 ) -> io::Result<Outcome<S::Counts>> {

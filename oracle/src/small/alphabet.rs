@@ -56,14 +56,14 @@ fn of_name(name: usize, ids: &[ComponentId]) -> Vec<Event> {
 }
 
 /// The events that are fed back by the reply to an effect, which is the first
-/// one of its dispatch or not: the reports that it asks for, good and bad, and
-/// at the first one stray events too.
+/// one of its dispatch or not: the reports that it asks for, and at the first
+/// one stray events too.
 pub fn fed(entries: &[Entry], effect: Effect, first: bool) -> Vec<Event> {
     let id = named(effect).unwrap_or(entries[0].0);
-    let mut events = reports(effect);
+    let mut events = reports(entries, effect);
     let stray = match effect {
-        // Where it is handed out the machine is about to lock. It is at rest in
-        // no history, and takes other events only here.
+        // An event that is fed back here stands before the emitted
+        // RecoveryFailed, and may lead away from where that locks.
         Effect::ReportRecoveryFailed(id) => ruled(entries, State::Recovering(id)),
         // Locked has no rule, and its machines are visited themselves.
         Effect::LatchLockdown => vec![Event::EffectFailed],
@@ -84,6 +84,31 @@ pub fn fed(entries: &[Entry], effect: Effect, first: bool) -> Vec<Event> {
     events
 }
 
+/// The reports that an effect asks for, the best one first and the worst one
+/// last.
+pub fn reports(entries: &[Entry], effect: Effect) -> Vec<Event> {
+    match effect {
+        Effect::VerifyFirmware(id) => {
+            vec![Event::VerificationPassed(id), Event::VerificationFailed(id)]
+        }
+        Effect::ReleaseReset(id) => vec![
+            Event::Booted(id),
+            Event::ComponentReady(id),
+            Event::Timeout(id),
+        ],
+        Effect::RecoverComponent { id, .. } => vec![
+            Event::Restored(id),
+            Event::RecoveryFailed,
+            Event::RecoveryUnavailable(id),
+        ],
+        Effect::StageUpdate => vec![Event::UpdateVerified, Event::UpdateRejected],
+        Effect::ActivateUpdate => {
+            vec![Event::BootConfirmed(entries[0].0), Event::CommitTimeout]
+        }
+        _ => Vec::new(),
+    }
+}
+
 /// The component that an effect names.
 fn named(effect: Effect) -> Option<ComponentId> {
     match effect {
@@ -100,24 +125,71 @@ fn named(effect: Effect) -> Option<ComponentId> {
     }
 }
 
-/// The reports that an effect asks for, good and bad.
-fn reports(effect: Effect) -> Vec<Event> {
-    match effect {
-        Effect::VerifyFirmware(id) => {
-            vec![Event::VerificationPassed(id), Event::VerificationFailed(id)]
+#[cfg(test)]
+mod tests {
+    use std::collections::HashSet;
+
+    use super::super::chains::of_length;
+    use super::*;
+    use crate::steps::numbers::event_fields;
+
+    fn entries(length: usize) -> Vec<Entry> {
+        of_length(length).remove(0)
+    }
+
+    fn numbers(events: &[Event]) -> HashSet<[u16; 4]> {
+        events.iter().map(event_fields).collect()
+    }
+
+    /// Seven events name nothing, PowerGood has three results, nine events name
+    /// an id and BootFailed an id and one of three kinds.
+    #[test]
+    fn every_event_is_begun_with_every_value() {
+        for length in [1, 2] {
+            let events = begun(&entries(length), State::Locked);
+            let expected = 7 + 3 + 12 * (length + 1);
+            assert_eq!(numbers(&events).len(), expected);
+            assert_eq!(events.len(), expected);
         }
-        Effect::ReleaseReset(id) => vec![
-            Event::Booted(id),
-            Event::ComponentReady(id),
-            Event::Timeout(id),
-        ],
-        Effect::RecoverComponent { id, .. } => vec![
+    }
+
+    #[test]
+    fn on_chains_of_three_events_without_a_rule_are_left_out() {
+        let entries = entries(3);
+        assert!(begun(&entries, State::Locked).is_empty());
+        // PowerGood and EffectFailed.
+        assert_eq!(begun(&entries, State::PowerOnReset).len(), 3 + 1);
+        // Two updates, AttestationChallenge, UpdateRequest and EffectFailed; four
+        // that name an id, and BootFailed.
+        assert_eq!(begun(&entries, State::Updating).len(), 5 + 3 * (4 + 3));
+    }
+
+    #[test]
+    fn reports_come_first_and_nothing_is_fed_back_twice() {
+        let entries = entries(2);
+        let id = entries[1].0;
+        let recover = Effect::RecoverComponent { id, attempt: 0 };
+        let reported = [
             Event::Restored(id),
-            Event::RecoveryUnavailable(id),
             Event::RecoveryFailed,
-        ],
-        Effect::StageUpdate => vec![Event::UpdateVerified, Event::UpdateRejected],
-        Effect::ActivateUpdate => vec![Event::CommitTimeout],
-        _ => Vec::new(),
+            Event::RecoveryUnavailable(id),
+        ];
+        assert_eq!(fed(&entries, recover, false), reported);
+        let stray = [Event::CorruptionDetected(id), Event::EffectFailed];
+        let first = fed(&entries, recover, true);
+        assert_eq!(first, [reported.as_slice(), &stray].concat());
+    }
+
+    #[test]
+    fn every_effect_is_replied_to_with_an_event() {
+        for length in [2, 3] {
+            let entries = entries(length);
+            let first = entries[0].0;
+            let corruption = vec![Event::CorruptionDetected(first)];
+            assert_eq!(fed(&entries, Effect::SignAttestation, false), corruption);
+            assert_eq!(fed(&entries, Effect::AssertReset(first), false), corruption);
+            let latched = fed(&entries, Effect::LatchLockdown, true);
+            assert_eq!(latched, [Event::EffectFailed]);
+        }
     }
 }

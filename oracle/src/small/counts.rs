@@ -42,6 +42,11 @@ impl Default for Counts {
 }
 
 impl Counts {
+    /// The machines visited, by the number of components.
+    pub fn machines(&self) -> [u64; MOST] {
+        self.machines
+    }
+
     pub fn add(&mut self, visit: &Visit) {
         let length = visit.entries.len();
         if visit.depth == 0 {

@@ -77,3 +77,68 @@ impl Compared for Small {
         History { calls }.to_string()
     }
 }
+
+#[cfg(test)]
+mod tests {
+    use super::*;
+    use crate::compare::compare_answers;
+
+    /// The first of all walks, and what a right port answers to it.
+    fn first_walk() -> (Vec<Visit>, Vec<String>) {
+        let visits: Vec<Visit> = Walk::new(chains(1).remove(0), 1).collect();
+        let text: Vec<String> = visits
+            .iter()
+            .map(|v| Small::answer(v).to_string())
+            .collect();
+        let lines = text.join("\n").split('\n').map(String::from).collect();
+        (visits, lines)
+    }
+
+    fn failures(visits: Vec<Visit>, port: &[String]) -> Vec<String> {
+        let port = format!("{}\n", port.join("\n"));
+        let outcome = compare_answers::<Small>(port.as_bytes(), visits).unwrap();
+        assert_eq!(outcome.counts.machines(), [20, 0, 0]);
+        outcome.failures
+    }
+
+    #[test]
+    fn right_answers_agree() {
+        let (visits, lines) = first_walk();
+        assert!(failures(visits, &lines).is_empty());
+    }
+
+    /// The component passes, its release fails, and the port does not lock.
+    #[test]
+    fn a_wrong_answer_is_found_and_its_calls_are_named() {
+        let (visits, mut lines) = first_walk();
+        let failed = ["261 1 256 0 0 0 0 0 0", "257 1 9 0 0", "260", "258"];
+        let calls = visits[1].history.calls.iter().map(Call::to_string);
+        let calls: Vec<String> = calls.collect();
+        let place = calls.windows(4).position(|some| some == failed);
+        let line = visits[0].history.calls.len() + place.unwrap() + 3;
+        let right = "0 18 0 0 0 6 256 1 0 0 0 0 0 0 0 0 1 1";
+        let wrong = "0 18 0 0 0 3 256 1 0 0 0 0 0 0 0 0 1 1";
+        assert_eq!(lines[line], right);
+        lines[line] = wrong.into();
+        let asked = format!("256 1 1 9 0 0 5 256\n{}", failed.join("\n"));
+        let message = format!("case {asked}\noracle {right}\nport \"{wrong}\\n\"");
+        assert_eq!(failures(visits, &lines), [message]);
+    }
+
+    #[test]
+    fn a_line_too_few_is_found() {
+        let (visits, mut lines) = first_walk();
+        lines.pop();
+        assert_eq!(failures(visits, &lines), ["the port printed too few lines"]);
+    }
+
+    #[test]
+    fn every_chain_of_one_is_walked_with_each_max_retry() {
+        let mut counts = counts::Counts::default();
+        visits(1).for_each(|visit| counts.add(&visit));
+        let table = counts.to_string();
+        assert!(table.starts_with("chains 6\nwalks 18\nmachines_of_1 450\nmachines_of_2 0\n"));
+        assert!(table.contains("\nunreached passed_pre_supervision_elsewhere\n"));
+        assert!(!table.contains("passed_pre_supervision_active_none_left"));
+    }
+}

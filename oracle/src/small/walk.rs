@@ -6,7 +6,7 @@ use std::collections::HashSet;
 use openprot_orchestrator_sm::{Effect, Event};
 
 use super::Visit;
-use super::alphabet::{begun, fed};
+use super::alphabet::{begun, fed, reports};
 use crate::histories::stepwise::Stepwise;
 use crate::histories::{Call, History, Reply};
 use crate::lists::answer::chain;
@@ -128,22 +128,50 @@ struct From<'a> {
     visit: Visit,
 }
 
+/// How the effects of a dispatch are replied to. What is not named is done.
+#[derive(Clone, Copy)]
+enum Replies {
+    Done,
+    /// Another reply to the effect at this place.
+    At(usize, Reply),
+    /// The best report to each effect that asks for one, or the worst.
+    Best,
+    Worst,
+}
+
+impl Replies {
+    fn to(self, effect: Effect, place: usize, entries: &[Entry]) -> Reply {
+        let report = match self {
+            Replies::At(other, reply) if other == place => return reply,
+            Replies::Done | Replies::At(..) => None,
+            Replies::Best => reports(entries, effect).first().copied(),
+            Replies::Worst => reports(entries, effect).last().copied(),
+        };
+        report.map_or(Reply::Done, Reply::Then)
+    }
+}
+
 impl From<'_> {
-    /// The event with all effects done, with a failure at each of them, and
-    /// with events fed back at each of them.
+    /// The event with all effects done, with a failure at each of them, with
+    /// events fed back at each of them, and with reports to all of them.
     fn every_reply(&mut self, event: Event) {
-        let effects = self.dispatch(event, None);
+        let effects = self.dispatch(event, Replies::Done);
+        let mut asks = false;
         for (place, effect) in effects.into_iter().enumerate() {
-            self.dispatch(event, Some((place, Reply::Failed)));
+            self.dispatch(event, Replies::At(place, Reply::Failed));
             for follow_up in fed(&self.walk.entries, effect, place == 0) {
-                self.dispatch(event, Some((place, Reply::Then(follow_up))));
+                self.dispatch(event, Replies::At(place, Reply::Then(follow_up)));
             }
+            asks |= !reports(&self.walk.entries, effect).is_empty();
+        }
+        if asks {
+            self.dispatch(event, Replies::Best);
+            self.dispatch(event, Replies::Worst);
         }
     }
 
-    /// One dispatch. Every reply is done but `other`, which is that to the
-    /// effect at the place before it. Gives the effects.
-    fn dispatch(&mut self, event: Event, other: Option<(usize, Reply)>) -> Vec<Effect> {
+    /// One dispatch. Gives the effects.
+    fn dispatch(&mut self, event: Event, replies: Replies) -> Vec<Effect> {
         let walk = &mut *self.walk;
         let rust = set_up(&walk.entries, walk.max_retry, &self.start);
         walk.stepwise.set_up(rust);
@@ -151,10 +179,7 @@ impl From<'_> {
         let mut effects = Vec::new();
         walk.stepwise.begin(event);
         while let Some(effect) = walk.stepwise.waiting() {
-            let reply = match other {
-                Some((place, reply)) if place == effects.len() => reply,
-                _ => Reply::Done,
-            };
+            let reply = replies.to(effect, effects.len(), &walk.entries);
             walk.stepwise.reply(reply);
             calls.push(Call::Reply(reply));
             effects.push(effect);
@@ -197,5 +222,117 @@ impl From<'_> {
             let last = Some((self.place, calls));
             self.walk.reach(end, self.visit.depth + 1, last);
         }
+    }
+}
+
+#[cfg(test)]
+mod tests {
+    use openprot_orchestrator_sm::PowerOnResult;
+
+    use super::super::chains::chains;
+    use super::*;
+    use crate::histories::answer::answer;
+    use crate::histories::{Answer, Called};
+
+    fn walk(max_retry: u8) -> Walk {
+        Walk::new(chains(1).remove(0), max_retry)
+    }
+
+    fn machines(mut walk: Walk) -> Vec<String> {
+        while walk.next().is_some() {}
+        let texts = walk.reached.iter().map(|r| r.machine.to_string());
+        let mut texts: Vec<String> = texts.collect();
+        texts.sort();
+        texts
+    }
+
+    /// Component 9 alone, Required, max_retry 1: every restore exhausts.
+    /// Worked out by hand. A machine is `state payload cursor window`, then
+    /// `isolated retry awaiting_boot released`.
+    #[test]
+    fn the_machines_of_one_required_component() {
+        let expected = [
+            // Before the walk, and in it.
+            "0 256 0 0 0 0 0 0",
+            "1 256 0 0 0 0 0 0",
+            // Ready: booted or not, with the window closed or open.
+            "3 256 1 0 0 0 0 1",
+            "3 256 1 0 0 0 1 1",
+            "3 256 1 1 0 0 0 1",
+            "3 256 1 1 0 0 1 1",
+            // Updating closes the window.
+            "4 256 1 0 0 0 0 1",
+            "4 256 1 0 0 0 1 1",
+            // Recovering from the walk, and from after it.
+            "5 9 0 0 0 0 0 0",
+            "5 9 1 0 0 0 0 0",
+            // Locked from each of these, ...
+            "6 256 0 0 0 0 0 0",
+            // ... after one restore, or after one more that was fed back ...
+            "6 256 0 0 0 1 0 0",
+            "6 256 0 0 0 2 0 0",
+            "6 256 1 0 0 0 0 0",
+            "6 256 1 0 0 0 0 1",
+            "6 256 1 0 0 0 1 1",
+            // ... and the same from after the walk, and with the window open.
+            "6 256 1 0 0 1 0 0",
+            "6 256 1 0 0 2 0 0",
+            "6 256 1 1 0 0 0 1",
+            "6 256 1 1 0 0 1 1",
+        ];
+        assert_eq!(machines(walk(1)), expected);
+    }
+
+    #[test]
+    fn with_max_retry_2_a_restore_walks_again() {
+        let machines = machines(walk(2));
+        assert!(machines.contains(&"1 256 0 0 0 1 0 0".to_string()));
+    }
+
+    /// The reason why chains of three leave out max_retry 0.
+    #[test]
+    fn max_retry_0_and_1_are_walked_alike() {
+        for entries in chains(1) {
+            let calls = |max_retry| -> Vec<Vec<Call>> {
+                let walk = Walk::new(entries.clone(), max_retry);
+                walk.map(|visit| visit.history.calls[1..].to_vec())
+                    .collect()
+            };
+            assert_eq!(calls(0), calls(1));
+        }
+    }
+
+    /// Each visit goes from `new` to its machine by begins and replies alone,
+    /// and is there when the first event is begun.
+    #[test]
+    fn a_visit_leads_from_new_to_its_machine() {
+        let mut walk = walk(2);
+        for place in 0.. {
+            let Some(visit) = walk.next() else { break };
+            let length = walk.path(place).len();
+            let mut set_ups = visit.history.calls[..length].iter();
+            assert!(!set_ups.any(|call| matches!(call, Call::SetUp(_))));
+            if place > 0 {
+                let answers = answer(&visit.history).answers;
+                let Answer::Called(Called { machine, .. }) = &answers[length - 1] else {
+                    panic!("a call on the machine");
+                };
+                assert_eq!(*machine, walk.reached[place].machine);
+            }
+        }
+    }
+
+    #[test]
+    fn reports_to_every_effect_lead_through_the_walk() {
+        let visit = walk(1).nth(0).unwrap();
+        let id = chains(1)[0][0].0;
+        let best = [
+            Call::Begin(Event::PowerGood(PowerOnResult::Provisioned)),
+            Call::Reply(Reply::Done),
+            Call::Reply(Reply::Then(Event::VerificationPassed(id))),
+            Call::Reply(Reply::Then(Event::Booted(id))),
+        ];
+        let calls = &visit.history.calls;
+        assert!(calls.windows(best.len()).any(|some| *some == best));
     }
 }
