@@ -28,15 +28,29 @@ const POLICIES: [FailurePolicy; 3] = [
 ];
 
 /// The values of max_retry for the chains of `length` components. After a
-/// Restored the retry is at least 1, so that 0 and 1 exhaust recovery alike:
-/// 0 is left out where there are most chains.
+/// Restored the retry is at least 1, so that recovery is exhausted at once with
+/// 0 and with 1. With 2 it is exhausted or not, so that the long chains have
+/// both outcomes with 2 alone.
 pub fn max_retries(length: usize) -> &'static [u8] {
-    if is_long(length) { &[1, 2] } else { &[0, 1, 2] }
+    if is_long(length) { &[2] } else { &[0, 1, 2] }
 }
 
-/// Whether a chain of this length is walked with fewer events and replies.
+/// Whether chains of this length are walked with fewer events.
 pub fn is_long(length: usize) -> bool {
     length == MOST
+}
+
+/// Whether effects on this chain get other replies than done. Of the long
+/// chains these are one in eight, since a kind has a part in one rule alone:
+/// with these kinds PreSupervision goes on after a release and AwaitingReady is
+/// entered too.
+pub fn varies_replies(entries: &[Entry]) -> bool {
+    let kinds = [
+        ComponentKind::Passive,
+        ComponentKind::Active,
+        ComponentKind::Active,
+    ];
+    !is_long(entries.len()) || entries.iter().map(|(_, attrs)| attrs.kind).eq(kinds)
 }
 
 /// Every chain of 1 to `most` components, the short ones first.
@@ -90,6 +104,13 @@ mod tests {
         let lengths = [1, 2, 3].map(|length| of_length(length).len());
         assert_eq!(lengths, [6, 72, 1296]);
         assert_eq!(chains(3).len(), 6 + 72 + 1296);
+    }
+
+    #[test]
+    fn one_in_eight_chains_of_three_varies_its_replies() {
+        let varied = |chains: Vec<Vec<Entry>>| chains.iter().filter(|c| varies_replies(c)).count();
+        assert_eq!(varied(chains(2)), 6 + 72);
+        assert_eq!(varied(of_length(3)), 1296 / 8);
     }
 
     #[test]

@@ -6,12 +6,12 @@ use std::process::ExitCode;
 
 use super::chains::MOST;
 use super::counts::Counts;
-use super::{Small, visits};
+use super::{Choice, Small, visits};
 use crate::command::{number, print_outcome, with_arguments};
 use crate::compare::compare_cases;
 
-const USAGE: &str = "usage: small walk COMPONENTS
-       small compare COMPONENTS PORT";
+const USAGE: &str = "usage: small walk COMPONENTS [PART PARTS]
+       small compare PORT COMPONENTS [PART PARTS]";
 
 /// Runs the command that the arguments name.
 pub fn main() -> ExitCode {
@@ -21,14 +21,14 @@ pub fn main() -> ExitCode {
 fn run(arguments: &[&OsStr]) -> Result<ExitCode, String> {
     let (command, rest) = arguments.split_first().ok_or(USAGE)?;
     match (command.to_str(), rest) {
-        (Some("walk"), [components]) => {
-            let counts = walk(most(components)?);
+        (Some("walk"), chains) => {
+            let counts = walk(choice(chains)?);
             write!(io::stdout(), "{counts}").map_err(|error| error.to_string())?;
             Ok(ExitCode::SUCCESS)
         }
-        (Some("compare"), [components, port]) => {
-            let components = most(components)?;
-            compare_cases::<Small, _>(move || visits(components), port)
+        (Some("compare"), [port, chains @ ..]) => {
+            let choice = choice(chains)?;
+            compare_cases::<Small, _>(move || visits(choice), port)
                 .and_then(|outcome| print_outcome(&outcome))
                 .map_err(|error| error.to_string())
         }
@@ -36,19 +36,30 @@ fn run(arguments: &[&OsStr]) -> Result<ExitCode, String> {
     }
 }
 
-fn most(argument: &OsStr) -> Result<usize, String> {
-    let components = number(argument)?;
-    if (1..=MOST).contains(&components) {
-        Ok(components)
-    } else {
-        Err(format!("{components} components: 1 to {MOST} are possible"))
+/// Which chains the arguments name.
+fn choice(arguments: &[&OsStr]) -> Result<Choice, String> {
+    let (components, part, parts) = match arguments {
+        [components] => (number(components)?, 0, 1),
+        [components, part, parts] => (number(components)?, number(part)?, number(parts)?),
+        _ => return Err(USAGE.into()),
+    };
+    if !(1..=MOST).contains(&components) {
+        return Err(format!("{components} components: 1 to {MOST} are possible"));
     }
+    if part >= parts {
+        return Err(format!("part {part} of {parts}: the first part is 0"));
+    }
+    Ok(Choice {
+        components,
+        part,
+        parts,
+    })
 }
 
 /// What the Rust alone reaches.
-fn walk(components: usize) -> Counts {
+fn walk(choice: Choice) -> Counts {
     let mut counts = Counts::default();
-    for visit in visits(components) {
+    for visit in visits(choice) {
         counts.add(&visit);
     }
     counts

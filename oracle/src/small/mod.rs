@@ -40,15 +40,26 @@ impl fmt::Display for Visit {
     }
 }
 
-/// All machines of all chains of 1 to `components` components.
-pub fn visits(components: usize) -> impl Iterator<Item = Visit> {
+/// The chains that are walked: those of 1 to `components` components, and of
+/// them one in `parts`, from the number `part` on.
+#[derive(Clone, Copy, PartialEq, Eq, Debug)]
+pub struct Choice {
+    pub components: usize,
+    pub part: usize,
+    pub parts: usize,
+}
+
+/// All machines of these chains.
+pub fn visits(choice: Choice) -> impl Iterator<Item = Visit> {
+    let chains = chains(choice.components).into_iter();
+    let chains = chains.skip(choice.part).step_by(choice.parts);
     let walks = |entries: Vec<Entry>| {
         let retries = max_retries(entries.len());
         retries
             .iter()
             .map(move |max_retry| Walk::new(entries.clone(), *max_retry))
     };
-    chains(components).into_iter().flat_map(walks).flatten()
+    chains.flat_map(walks).flatten()
 }
 
 /// Small chains, as a subject of comparison.
@@ -135,7 +146,12 @@ mod tests {
     #[test]
     fn every_chain_of_one_is_walked_with_each_max_retry() {
         let mut counts = counts::Counts::default();
-        visits(1).for_each(|visit| counts.add(&visit));
+        let choice = Choice {
+            components: 1,
+            part: 0,
+            parts: 1,
+        };
+        visits(choice).for_each(|visit| counts.add(&visit));
         let table = counts.to_string();
         assert!(table.starts_with("chains 6\nwalks 18\nmachines_of_1 450\nmachines_of_2 0\n"));
         assert!(table.contains("\nunreached passed_pre_supervision_elsewhere\n"));

@@ -7,6 +7,7 @@ use openprot_orchestrator_sm::{Effect, Event};
 
 use super::Visit;
 use super::alphabet::{begun, fed, reports};
+use super::chains::varies_replies;
 use crate::histories::stepwise::Stepwise;
 use crate::histories::{Call, History, Reply};
 use crate::lists::answer::chain;
@@ -152,10 +153,14 @@ impl Replies {
 }
 
 impl From<'_> {
-    /// The event with all effects done, with a failure at each of them, with
-    /// events fed back at each of them, and with reports to all of them.
+    /// The event with all effects done, and with other replies where the chain
+    /// gets them: a failure at each effect, events fed back at each effect, and
+    /// reports to all of them.
     fn every_reply(&mut self, event: Event) {
         let effects = self.dispatch(event, Replies::Done);
+        if !varies_replies(&self.walk.entries) {
+            return;
+        }
         let mut asks = false;
         for (place, effect) in effects.into_iter().enumerate() {
             self.dispatch(event, Replies::At(place, Reply::Failed));
@@ -289,7 +294,7 @@ mod tests {
         assert!(machines.contains(&"1 256 0 0 0 1 0 0".to_string()));
     }
 
-    /// The reason why chains of three leave out max_retry 0.
+    /// The reason why the long chains leave out one of them.
     #[test]
     fn max_retry_0_and_1_are_walked_alike() {
         for entries in chains(1) {
