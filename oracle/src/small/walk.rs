@@ -82,7 +82,7 @@ impl Walk {
         let events = begun(&self.entries, start.state);
         // Where nothing is begun, the path would only repeat other visits.
         let to = if events.is_empty() { 0 } else { place };
-        let mut from = From {
+        let mut visiting = Visiting {
             visit: Visit {
                 history: History {
                     calls: self.path(to),
@@ -100,9 +100,9 @@ impl Walk {
             moved: false,
         };
         for event in events {
-            from.every_reply(event);
+            visiting.every_reply(event);
         }
-        from.visit
+        visiting.visit
     }
 }
 
@@ -120,7 +120,7 @@ impl Iterator for Walk {
 }
 
 /// The dispatches from one machine.
-struct From<'a> {
+struct Visiting<'a> {
     walk: &'a mut Walk,
     place: usize,
     start: Machine,
@@ -152,7 +152,7 @@ impl Replies {
     }
 }
 
-impl From<'_> {
+impl Visiting<'_> {
     /// The event with all effects done, and with other replies where the chain
     /// gets them: a failure at each effect, events fed back at each effect, and
     /// reports to all of them.
@@ -329,7 +329,7 @@ mod tests {
 
     #[test]
     fn reports_to_every_effect_lead_through_the_walk() {
-        let visit = walk(1).nth(0).unwrap();
+        let visit = walk(1).next().unwrap();
         let id = chains(1)[0][0].0;
         let best = [
             Call::Begin(Event::PowerGood(PowerOnResult::Provisioned)),
