@@ -106,17 +106,18 @@ pub(crate) fn compare_answers<S: Compared>(
     cases: impl IntoIterator<Item = S::Case>,
 ) -> io::Result<Outcome<S::Counts>> {
     let mut outcome = Outcome::<S::Counts>::default();
+    let mut line = Vec::new();
     for case in cases {
         let answer = S::answer(&case);
         outcome.counts.record(&case, &answer);
         for (index, expected) in answer.to_string().split('\n').enumerate() {
-            let mut line = Vec::new();
+            line.clear();
             if port.read_until(b'\n', &mut line)? == 0 {
                 let message = "the port printed too few lines".to_string();
                 outcome.failures.push(message);
                 return Ok(outcome);
             }
-            if line != format!("{expected}\n").into_bytes() {
+            if line.strip_suffix(b"\n") != Some(expected.as_bytes()) {
                 outcome.differences += 1;
                 let message = difference(&S::lines_up_to(&case, index), expected, &line);
                 outcome.failures.push(message);

@@ -109,6 +109,29 @@ pub fn reports(entries: &[Entry], effect: Effect) -> Vec<Event> {
     }
 }
 
+/// Events for the first three effects of a dispatch that ends with the recovery
+/// of a component. It is restored; another one times out, and is restored or
+/// given up. If the first restore exhausts a Required component, the other two
+/// events stand before the emitted RecoveryFailed and lead to PreSupervision,
+/// with a retry of max_retry. No fewer events do, and two effects are needed to
+/// feed back the first two. The retry is 0 before, so that the long chains,
+/// which have max_retry 2, have no use for these.
+pub fn overtaking(entries: &[Entry], effects: &[Effect]) -> Vec<[Event; 3]> {
+    let [_, .., Effect::RecoverComponent { id, .. }] = effects else {
+        return Vec::new();
+    };
+    if is_long(entries.len()) {
+        return Vec::new();
+    }
+    let others = ids(entries).into_iter().filter(|other| other != id);
+    others
+        .flat_map(|other| {
+            let ends = [Event::Restored(other), Event::RecoveryUnavailable(other)];
+            ends.map(|end| [Event::Restored(*id), Event::Timeout(other), end])
+        })
+        .collect()
+}
+
 /// The component that an effect names.
 fn named(effect: Effect) -> Option<ComponentId> {
     match effect {
@@ -178,6 +201,20 @@ mod tests {
         let stray = [Event::CorruptionDetected(id), Event::EffectFailed];
         let first = fed(&entries, recover, true);
         assert_eq!(first, [reported.as_slice(), &stray].concat());
+    }
+
+    #[test]
+    fn only_a_recovery_after_another_effect_is_overtaken() {
+        let entries = entries(2);
+        let (id, other) = (entries[0].0, entries[1].0);
+        let recover = Effect::RecoverComponent { id, attempt: 0 };
+        let effects = [Effect::DiscardStaged, recover];
+        assert!(overtaking(&entries, &effects[1..]).is_empty());
+        assert!(overtaking(&entries, &effects[..1]).is_empty());
+        let start = [Event::Restored(id), Event::Timeout(other)];
+        let ends = [Event::Restored(other), Event::RecoveryUnavailable(other)];
+        let expected = ends.map(|end| [start[0], start[1], end]);
+        assert_eq!(overtaking(&entries, &effects), expected);
     }
 
     #[test]

@@ -6,14 +6,14 @@ use std::collections::HashSet;
 use openprot_orchestrator_sm::{Effect, Event};
 
 use super::Visit;
-use super::alphabet::{begun, fed, reports};
+use super::alphabet::{begun, fed, overtaking, reports};
 use super::chains::varies_replies;
 use crate::histories::stepwise::Stepwise;
 use crate::histories::{Call, History, Reply};
 use crate::lists::answer::chain;
 use crate::lists::{Entry, List};
 use crate::steps::answer::{Rust, set_up};
-use crate::steps::numbers::event_fields;
+use crate::steps::numbers::{event_fields, state_parts};
 use crate::steps::{Case, Machine};
 
 /// A machine at rest that was reached.
@@ -25,15 +25,32 @@ struct Reached {
     last: Option<(usize, Vec<Call>)>,
 }
 
+/// The fields of a machine. The Rust's types cannot be put into a set.
+type Key = (u8, Option<u8>, u8, bool, Vec<(bool, u8, bool, bool)>);
+
+fn key(machine: &Machine) -> Key {
+    let (state, payload) = state_parts(machine.state);
+    let statuses = machine.statuses.iter();
+    (
+        state,
+        payload.map(|id| id.get()),
+        machine.cursor,
+        machine.window,
+        statuses
+            .map(|s| (s.isolated, s.retry, s.awaiting_boot, s.released))
+            .collect(),
+    )
+}
+
 pub struct Walk {
     entries: Vec<Entry>,
     max_retry: u8,
     /// In the order in which they were reached; those before `next` are visited.
     reached: Vec<Reached>,
     next: usize,
-    /// The machines in `reached`, and the single steps taken, by their texts.
-    known: HashSet<String>,
-    stepped: HashSet<(String, [u16; 4])>,
+    /// The machines in `reached`, and the single steps taken.
+    known: HashSet<Key>,
+    stepped: HashSet<(Key, [u16; 4])>,
     /// Makes the dispatches. The comparison holds it to `dispatch_with`.
     stepwise: Stepwise,
 }
@@ -57,7 +74,7 @@ impl Walk {
 
     /// A machine at rest, unless it was reached before.
     fn reach(&mut self, machine: Machine, depth: usize, last: Option<(usize, Vec<Call>)>) {
-        if self.known.insert(machine.to_string()) {
+        if self.known.insert(key(&machine)) {
             self.reached.push(Reached {
                 machine,
                 depth,
@@ -138,6 +155,8 @@ enum Replies {
     /// The best report to each effect that asks for one, or the worst.
     Best,
     Worst,
+    /// These events to the first effects.
+    First([Event; 3]),
 }
 
 impl Replies {
@@ -147,6 +166,7 @@ impl Replies {
             Replies::Done | Replies::At(..) => None,
             Replies::Best => reports(entries, effect).first().copied(),
             Replies::Worst => reports(entries, effect).last().copied(),
+            Replies::First(events) => events.get(place).copied(),
         };
         report.map_or(Reply::Done, Reply::Then)
     }
@@ -154,24 +174,27 @@ impl Replies {
 
 impl Visiting<'_> {
     /// The event with all effects done, and with other replies where the chain
-    /// gets them: a failure at each effect, events fed back at each effect, and
-    /// reports to all of them.
+    /// gets them: a failure at each effect, events fed back at each effect,
+    /// reports to all of them, and events that overtake RecoveryFailed.
     fn every_reply(&mut self, event: Event) {
         let effects = self.dispatch(event, Replies::Done);
         if !varies_replies(&self.walk.entries) {
             return;
         }
         let mut asks = false;
-        for (place, effect) in effects.into_iter().enumerate() {
+        for (place, effect) in effects.iter().enumerate() {
             self.dispatch(event, Replies::At(place, Reply::Failed));
-            for follow_up in fed(&self.walk.entries, effect, place == 0) {
+            for follow_up in fed(&self.walk.entries, *effect, place == 0) {
                 self.dispatch(event, Replies::At(place, Reply::Then(follow_up)));
             }
-            asks |= !reports(&self.walk.entries, effect).is_empty();
+            asks |= !reports(&self.walk.entries, *effect).is_empty();
         }
         if asks {
             self.dispatch(event, Replies::Best);
             self.dispatch(event, Replies::Worst);
+        }
+        for events in overtaking(&self.walk.entries, &effects) {
+            self.dispatch(event, Replies::First(events));
         }
     }
 
@@ -200,7 +223,7 @@ impl Visiting<'_> {
         let taken = walk.stepwise.taken();
         self.visit.settled += taken.len() as u64;
         for (machine, event) in taken {
-            let step = (machine.to_string(), event_fields(event));
+            let step = (key(machine), event_fields(event));
             if walk.stepped.insert(step) {
                 self.visit.steps.push(Case {
                     max_retry: walk.max_retry,
@@ -232,7 +255,7 @@ impl Visiting<'_> {
 
 #[cfg(test)]
 mod tests {
-    use openprot_orchestrator_sm::PowerOnResult;
+    use openprot_orchestrator_sm::{FailurePolicy, PowerOnResult};
 
     use super::super::chains::chains;
     use super::*;
@@ -292,6 +315,19 @@ mod tests {
     fn with_max_retry_2_a_restore_walks_again() {
         let machines = machines(walk(2));
         assert!(machines.contains(&"1 256 0 0 0 1 0 0".to_string()));
+    }
+
+    /// Component 9 is Required and 4 Isolable. Its boot failed and its restore
+    /// exhausts recovery; 4 times out and is restored before RecoveryFailed is
+    /// taken, which PreSupervision then has no rule for.
+    #[test]
+    fn a_required_component_is_walked_again_with_its_retry_at_max_retry() {
+        let chain = chains(2).into_iter().find(|entries| {
+            let policies = entries.iter().map(|(_, attrs)| attrs.failure_policy);
+            policies.eq([FailurePolicy::Required, FailurePolicy::Isolable])
+        });
+        let machines = machines(Walk::new(chain.unwrap(), 1));
+        assert!(machines.contains(&"1 256 0 0 0 1 0 0 1 0 0 0".to_string()));
     }
 
     /// The reason why the long chains leave out one of them.
