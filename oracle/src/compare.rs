@@ -52,6 +52,16 @@ pub fn compare<S: Subject>(
     Ok(outcome)
 }
 
+/// What `count` cases reach, with no port to compare.
+pub fn cover<S: Subject>(seed: u64, count: usize) -> Outcome<S::Counts> {
+    let mut outcome = Outcome::<S::Counts>::default();
+    for case in S::cases(seed).take(count) {
+        outcome.counts.record(&case, &S::answer(&case));
+    }
+    outcome.failures = outcome.counts.missed_minimums();
+    outcome
+}
+
 /// Prints `count` cases of `seed`, one line each.
 pub fn write_cases<S: Subject>(mut output: impl Write, seed: u64, count: usize) -> io::Result<()> {
     for case in S::cases(seed).take(count) {

@@ -28,12 +28,15 @@ pub fn answer(history: &History) -> Answers {
             },
         }
     }
+    let mut events = 0;
     if let Some(machine) = at_hand {
+        events = machine.stepwise.events();
         run.corners.extend(machine.stepwise.into_corners());
     }
     Answers {
         answers: run.answers,
         corners: run.corners,
+        events,
     }
 }
 
@@ -95,7 +98,7 @@ impl<'a> Run<'a> {
             entries: list.entries.clone(),
             max_retry,
             rust: new(),
-            stepwise: Stepwise::new(new(), &list.entries),
+            stepwise: Stepwise::new(new(), max_retry, list.entries.clone()),
         })
     }
 
