@@ -4,7 +4,7 @@ use mathlib.Core.Path.{_≡_, refl, sym, subst, ap, _∙_}
 use mathlib.Core.Logic.{⊎-elim}
 use mathlib.Core.Bool.{Bool, true, false}
 use mathlib.Core.List.{List, [], _∷_, _++_, append-assoc}
-use Prim.Native.Nat.{ℕ, zero, suc, _+_}
+use Prim.Native.Nat.{ℕ, zero, suc, _+_, _≤_}
 use native.Mathlib.Omega.{arith}
 use lib.Dec.{eqb, leb}
 use lib.ListN.{length}
@@ -28,6 +28,7 @@ use Rattle.history.specs.Demand.{Demand·3}
 use Rattle.history.proofs.Theorem.{demand-3}
 use Rattle.history.proofs.Exists.{not-empty}
 use Rattle.rows.specs.Handed.{callAt, callsIn, callsFrom, callsOf, effectsIn, handedOut, FirstEffects, FirstOf, XLines, Transcripts}
+use Rattle.rows.proofs.RunsEnd.{runs-end}
 use Rattle.rows.proofs.HandedTurns.{here}
 use Rattle.rows.proofs.HandedCalls.{log, last, due, idle-due}
 use Rattle.rows.proofs.HandedSteps.{due-few, goes, At, After, step}
@@ -47,9 +48,15 @@ pick-both P false h k = k refl
 -- ---- A run
 
 module _ (s : Setting) (room : ℕ) where
-  -- What is said of a run that stands at p after the calls ks.
-  abbrev First : Progress → List Call → Type 0
-  First p ks = FirstEffects (ended p) (p .point .going) (log s ks)
+  -- What is said of a run that stands at p after the calls ks; and of it all, once it has ended.
+  record First (p : Progress) (ks : List Call) : Type 0 where
+    rest : List Effect
+    first : handedOut (log s ks) ≡ effectsIn (p .said) ++ rest
+    few : length rest ≤ 1
+    all : p .point .going ≡ false → (p .point .number ≡ 8 → ⊥) → (p .point .number ≡ 9 → ⊥) → rest ≡ []
+
+  first-ended : (p : Progress) (ks : List Call) → p .point .going ≡ false → First p ks → FirstEffects (ended p) (log s ks)
+  first-ended p ks g f = record { rest = f .rest; first = f .first; few = f .few; all = f .all g }
 
   -- And as long as it goes on, the calls led to where it stands.
   record Onward (p : Progress) (ks : List Call) : Type 0 where
@@ -108,15 +115,17 @@ module _ (s : Setting) (room : ℕ) where
 
 -- ---- The theorems
 
-run-ends : (s : List ℕ) (room limit : ℕ) → checkOf s .number ≡ 0 → runOf s room limit ≡ ended (progressOf s room limit)
+run-is : (s : List ℕ) (room limit : ℕ) → checkOf s .number ≡ 0 → runOf s room limit ≡ ended (progressOf s room limit)
 unfolding runOf
-run-ends s room limit h = ap (λ (n : ℕ). pick (eqb n 0) (ended (progressOf s room limit)) (checkOf s)) h
+run-is s room limit h = ap (λ (n : ℕ). pick (eqb n 0) (ended (progressOf s room limit)) (checkOf s)) h
 
 pub x-lines : XLines
 unfolding progressOf callsOf
 x-lines s room limit h =
     let t : Setting = record { chain = chainIn s; maxRetry = retryIn s; limit = limit } in
-    subst (λ (o : Outcome). FirstEffects o (progressOf s room limit .point .going) (log t (callsOf s room limit))) (sym (run-ends s room limit h)) (whole t room (rowsIn s))
+    let ks : List Call = callsOf s room limit in
+    subst (λ (o : Outcome). FirstEffects o (log t ks)) (sym (run-is s room limit h))
+    (first-ended t room (progressOf s room limit) ks (runs-end s room limit) (whole t room (rowsIn s)))
 
 -- Number 0 is the answer to an accepted chain alone.
 no-number : (v : Verdict) → answerOf v .number ≡ 0 → v ≡ Accepted

@@ -1,7 +1,7 @@
 -- Section 4: the X lines of a run are, in order, the first effects that a history of step calls hands out. Which calls these
 -- are, the two lists of effects, and what is said of them.
 use mathlib.Core.Path.{_≡_}
-use mathlib.Core.Bool.{Bool, false}
+use mathlib.Core.Bool.{false}
 use mathlib.Core.List.{List, [], _∷_, _++_}
 use Prim.Native.Nat.{ℕ, zero, suc, _≤_}
 use lib.Dec.{eqb}
@@ -81,18 +81,21 @@ handedOut (HandedOut x ∷ log) = handedOut log ++ (x ∷ [])
 
 -- ---- The statements
 
+-- Every run has ended: its steps are as many as it needs, whatever the room and the limit.
+abbrev pub RunsEnd : Type 0
+RunsEnd = (s : List ℕ) (room limit : ℕ) → progressOf s room limit .point .going ≡ false
+
 -- The X lines of a run are the first effects handed out. At most one more was: a run that stops with 8 or 9 may end before
--- its line. Any other run that has ended wrote them all.
-pub record FirstEffects (run : Outcome) (going : Bool) (log : List Item) : Type 0 where
+-- its line. Any other run wrote them all.
+pub record FirstEffects (run : Outcome) (log : List Item) : Type 0 where
   pub rest : List Effect
   pub first : handedOut log ≡ effectsIn (run .said) ++ rest
   pub few : length rest ≤ 1
-  pub all : going ≡ false → (run .number ≡ 8 → ⊥) → (run .number ≡ 9 → ⊥) → rest ≡ []
+  pub all : (run .number ≡ 8 → ⊥) → (run .number ≡ 9 → ⊥) → rest ≡ []
 
--- The same of a sheet that questions 1 to 6 do not refuse, when its calls are answered so. The contract of `run` says that
--- every run of it has ended.
+-- The same of a sheet that questions 1 to 6 do not refuse, when its calls are answered so.
 abbrev pub FirstOf : List ℕ → ℕ → ℕ → List Answered → Type 0
-FirstOf s room limit rs = FirstEffects (runOf s room limit) (progressOf s room limit .point .going) (logOf (chainIn s) (retryIn s) (callsOf s room limit) rs)
+FirstOf s room limit rs = FirstEffects (runOf s room limit) (logOf (chainIn s) (retryIn s) (callsOf s room limit) rs)
 
 abbrev pub XLines : Type 0
 XLines = (s : List ℕ) (room limit : ℕ) → checkOf s .number ≡ 0 → FirstOf s room limit (answersTo (chainIn s) (retryIn s) (callsOf s room limit))
