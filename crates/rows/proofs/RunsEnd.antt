@@ -44,10 +44,10 @@ module _ (s : Setting) (n255 : length (s .chain) ≤ 255) where
   -- ---- The machine
 
   -- A status for each component, a state that the chain reaches, and at most 512 effects left.
-  record Fits (m : Model) : Type 0 where
-    statuses : length (m .core .statuses) ≡ length ch
-    reached : Reached ch (m .core .state)
-    few : length (m .left) ≤ 512
+  pub record Fits (m : Model) : Type 0 where
+    pub statuses : length (m .core .statuses) ≡ length ch
+    pub reached : Reached ch (m .core .state)
+    pub few : length (m .left) ≤ 512
 
   -- No more effects are left than before.
   shorter : (m : Model) (es : List Effect) (w : Waiting) (q : List Event) (f : Bool) → length es ≤ length (m .left) → Fits m
@@ -120,9 +120,13 @@ module _ (s : Setting) (n255 : length (s .chain) ≤ 255) where
       pickP (λ (q : Point). Fits (q .machine)) (leb (s .limit) (p .settled)) (λ t. h) (λ t. turn-fits (p .machine) h)
   step-by-fits p Rests h = pickP Kept (eqb (p .work) 0) (λ t. reading-fits p (p .rows) h) (λ t. turn-fits (p .machine) h)
 
-  step-fits : (p : Point) → Fits (p .machine) → Kept (stepFrom s p)
+  pub step-fits : (p : Point) → Fits (p .machine) → Kept (stepFrom s p)
   unfolding stepFrom
   step-fits p h = step-by-fits p (stageOf (p .machine)) h
+
+  pub start-fits : (rs : List Row) → Fits (startPoint ch rs .machine)
+  unfolding startPoint startOf
+  start-fits rs = record { statuses = length-replicate (length ch) fresh; reached = start-reached ch; few = omega arith }
 
   -- ---- A run
 
@@ -155,13 +159,10 @@ module _ (s : Setting) (n255 : length (s .chain) ≤ 255) where
         (λ g. g)
 
     run-ends : (rs : List Row) → runFrom s room (startPoint ch rs) .point .going ≡ false
-    unfolding runFrom startPoint startOf
+    unfolding runFrom
     run-ends rs =
         steps-end (suc (toDo s (startPoint ch rs))) record { point = startPoint ch rs; said = [] }
-        record {
-          machine = record { statuses = length-replicate (length ch) fresh; reached = start-reached ch; few = omega arith };
-          less = λ g. omega arith;
-        }
+        record { machine = start-fits rs; less = λ g. omega arith }
 
 pub runs-end : RunsEnd
 unfolding progressOf
