@@ -1,5 +1,5 @@
--- A run is tied to the history of its calls: every step keeps that, and what it leaves unwritten is told by how it stops. A history
--- of the code's own calls answers as the definitions do, so that this and demand 3 hold of it.
+-- A run is tied to the history of its calls: every step keeps that, and how it stops tells what it leaves unwritten. A
+-- history of the code's own calls answers as the definitions do, so that this and demand 3 hold of it.
 use mathlib.Core.Path.{_≡_, refl, sym, subst, ap, _∙_}
 use mathlib.Core.Logic.{inl, inr, ⊎-elim}
 use mathlib.Core.Bool.{Bool, true, false}
@@ -18,6 +18,7 @@ use Rattle.components.specs.declared.Verdict.{Verdict}
 use Rattle.components.specs.declared.Verdict.the-variants.{Accepted, Refused}
 use Rattle.components.specs.declared.ChainError.the-variants.{Empty, TooLong, DuplicateId, UnknownDependency, ForwardDependency}
 use Rattle.components.specs.Chain.{noEntries, answerOf}
+use Rattle.settling.specs.declared.Waiting.the-variants.{Nothing}
 use Rattle.sm.specs.Calls.{startOf}
 use Rattle.lines.specs.declared.Row.{Row}
 use Rattle.reader.specs.Read.{badLine, rowsIn, retryIn, cardsIn, pushedAll}
@@ -31,7 +32,7 @@ use Rattle.history.proofs.Theorem.{demand-3}
 use Rattle.history.proofs.Exists.{not-empty}
 use Rattle.rows.specs.Handed.{callAt, callsIn, callsFrom, callsOf, effectsIn, handedOut, callLines, Granted, FirstEffects, FirstLines, Counted, unfit, Tied, RunsTied, XLines, Transcripts}
 use Rattle.rows.proofs.RunsEnd.{runs-end, Fits, step-fits, start-fits}
-use Rattle.rows.proofs.HandedCalls.{effects-append, log, lines, Effects}
+use Rattle.rows.proofs.HandedCalls.{effects-append, last, log, lines, Effects}
 use Rattle.rows.proofs.HandedSteps.{one-effect, ends-quiet, goes, ends, Standing, effects-at, Spoken, Stopped, After, step}
 
 -- Two choices by one test.
@@ -46,6 +47,7 @@ module _ (s : Setting) (n255 : length (s .chain) ≤ 255) (room : ℕ) where
   -- What is said of a run that gave this after the calls ks.
   record Done (o : Outcome) (ks : List Call) : Type 0 where
     granted : Granted (answersTo (s .chain) (s .maxRetry) ks)
+    rested : o .number ≡ 0 → last s ks .waiting ≡ Nothing
     effects : FirstEffects o (log s ks)
     lines·of : FirstLines o room (lines s ks) (ends s ks)
     count : Counted o (s .limit) (log s ks)
@@ -70,30 +72,32 @@ module _ (s : Setting) (n255 : length (s .chain) ≤ 255) (room : ℕ) where
 
   -- It stops with 0, 7 or 9.
   stopped-done : (o : Outcome) (ks : List Call) → Effects s ks → o .settled ≤ s .limit
-      → Stopped s (o .settled) (o .number) (o .said) ks → Done o ks
-  stopped-done o ks x low h = record {
+      → length (transcript (o .said)) ≤ room → Stopped s (o .settled) (o .number) (o .said) ks → Done o ks
+  stopped-done o ks x low fits h = record {
     granted = x .granted;
+    rested = λ z. h .rested (λ k. absurd (omega (arith, z, k)));
     effects = record {
       rest = effectsIn (h .rest);
       first = effects-split ks (o .said) (h .rest) x (h .first);
       few = h .one;
       all = λ n8 n9. h .none n9;
     };
-    lines·of = record { rest = h .rest; first = h .first; few = h .few; ends = h .left room };
+    lines·of = record { rest = h .rest; first = h .first; few = h .few; fits = fits; ends = h .left room };
     count = record { same = λ n9. (h .same n9, omega (arith, h .same n9, low)); past = h .past };
   }
 
   -- Or with 8, since the line that a step writes does not fit.
   full-done : (es : List Entry) (ks : List Call) (t : Step) → Effects s ks → t .point .settled ≤ s .limit
-      → room < length (transcript es) + length (transcript (t .said)) → Spoken s es ks t
+      → length (transcript es) ≤ room → room < length (transcript es) + length (transcript (t .said)) → Spoken s es ks t
       → Done (ended record { point = stopped 8 0 (t .point); said = es }) ks
-  full-done es ks t x low long h =
+  full-done es ks t x low short long h =
       let e : Entry = h .line in
       let size : length (transcript (es ++ (e ∷ []))) ≡ length (transcript es) + length (transcript (t .said)) =
       ap length (transcript-append es (e ∷ [])) ∙ length-append (transcript es) (transcript (e ∷ []))
       ∙ ap (λ (l : List Entry). length (transcript es) + length (transcript l)) (sym (h .this)) in
       record {
         granted = x .granted;
+        rested = λ z. absurd (omega (arith, z));
         effects = record {
           rest = effectsIn (e ∷ h .rest);
           first = effects-split ks es (e ∷ h .rest) x (h .first);
@@ -104,6 +108,7 @@ module _ (s : Setting) (n255 : length (s .chain) ≤ 255) (room : ℕ) where
           rest = e ∷ h .rest;
           first = h .first;
           few = omega (arith, h .few);
+          fits = short;
           ends = unfit e (h .rest) (omega (arith, long, size));
         };
         count = record { same = λ n9. (h .count, omega (arith, h .count, low)); past = λ k. absurd (omega (arith, k)) };
@@ -118,17 +123,20 @@ module _ (s : Setting) (n255 : length (s .chain) ≤ 255) (room : ℕ) where
       let both : ℕ = length (transcript es) + length (transcript (t .said)) in
       let size : length (transcript (es ++ t .said)) ≡ both =
       ap length (transcript-append es (t .said)) ∙ length-append (transcript es) (transcript (t .said)) in
+      let next : Progress = record { point = t .point; said = es ++ t .said } in
       pickP (λ (p : Progress). Onward p ks) (leb both room)
-      (λ b. record {
-        stands = λ g. record { here = a .stands; machine = f; room·for = omega (arith, size, leb-true both room b) };
-        stops = λ g. stopped-done (ended record { point = t .point; said = es ++ t .said }) ks x (a .stands .low) (a .stops refl g);
+      (λ b. let fits : length (transcript (es ++ t .said)) ≤ room = omega (arith, size, leb-true both room b) in
+      record {
+        stands = λ g. record { here = a .stands; machine = f; room·for = fits };
+        stops = λ g.
+            stopped-done (ended next) ks x (a .stands .low) fits (a .stops refl g);
       })
       (λ b.
       let long : room < both = leb-false both room b in
       record {
         stands = λ g. goes g refl;
         stops = λ g. ⊎-elim (λ e. absurd (omega (arith, short, long, ap (λ (l : List Entry). length (transcript l)) e)))
-            (λ h. full-done es ks t x (a .stands .low) long h) (a .speaks);
+            (λ h. full-done es ks t x (a .stands .low) short long h) (a .speaks);
       })
 
   walk : (n : ℕ) (p : Progress) (ks : List Call) → Onward p ks → Onward (steps s room n p) (callsIn s room n p ks)
@@ -173,7 +181,8 @@ module _ (s : Setting) (n255 : length (s .chain) ≤ 255) (room : ℕ) where
   whole : (rs : List Row)
       → Onward (runFrom s room (startPoint (s .chain) rs)) (callsFrom s room (startPoint (s .chain) rs))
   unfolding runFrom
-  whole rs = walk (suc (toDo s (startPoint (s .chain) rs))) record { point = startPoint (s .chain) rs; said = [] } [] (starts rs)
+  whole rs =
+      walk (suc (toDo s (startPoint (s .chain) rs))) record { point = startPoint (s .chain) rs; said = [] } [] (starts rs)
 
 -- ---- The theorems
 
@@ -190,7 +199,7 @@ runs-tied s room limit h =
     let d : Done t n255 room (runOf s room limit) ks =
     subst (λ (o : Outcome). Done t n255 room o ks) (sym (run-is s room limit h))
     (whole t n255 room (rowsIn s) .stops (runs-end s room limit)) in
-    record { granted = d .granted; effects = d .effects; lines = d .lines·of; settled = d .count }
+    record { granted = d .granted; rested = d .rested; effects = d .effects; lines = d .lines·of; settled = d .count }
 
 pub x-lines : XLines
 x-lines s room limit h = runs-tied s room limit h .effects
@@ -217,7 +226,8 @@ transcripts-demanded s room limit h =
     record {
       every = λ rs m f.
           let d : Demand·3 (chainIn s) (retryIn s) ks rs =
-          subst (λ (ch : List Component). Demand·3 ch (retryIn s) ks rs) (kept-cards (cardsIn s)) (demand-3 l (retryIn s) ks rs m f) in
+          subst (λ (ch : List Component). Demand·3 ch (retryIn s) ks rs) (kept-cards (cardsIn s))
+          (demand-3 l (retryIn s) ks rs m f) in
           (d, subst (Tied s room limit) (sym (d .answers)) (runs-tied s room limit h));
       some = not-empty l (retryIn s) ks (kept-verdict (cardsIn s) ∙ passed s h);
     }

@@ -1,9 +1,9 @@
--- The machine of the last call is where the turns of the run's machine lead. The lines of the calls are what is written, and the
--- line of the call under way if that is still to come; the events settled are those counted, and those that the call under
--- way is still to take. A turn keeps this. A call begins with a machine at rest, which is the machine of the call before.
+-- The machine of the last call is where the turns of the run's machine lead. The lines of the calls are what is written, and
+-- the line of the call under way if that is still to come; the events settled are those counted, and those that the call
+-- under way is still to take. A turn keeps this. A call begins with a machine at rest: that of the call before.
 use mathlib.Core.Path.{_≡_, refl, sym, subst, ap, _∙_}
 use mathlib.Core.List.{List, [], _∷_, _++_, map, append-assoc, append-nil}
-use Prim.Native.Nat.{ℕ, _+_, _≤_, _<_}
+use Prim.Native.Nat.{ℕ, _+_, _<_}
 use native.Mathlib.Omega.{arith}
 use lib.ListN.{length}
 use Rattle.model.specs.Vocabulary.{pick}
@@ -141,8 +141,8 @@ module _ (s : Setting) where
     pub granted : Granted (answersTo ch max ks)
     pub handed : handedOut (log ks) ≡ effectsIn (lines ks)
 
-  -- The run's machine is m, it has settled n events and written `said`, and the last of the calls ks is under way: it has taken the
-  -- events `now` of those that it takes in all.
+  -- The run's machine is m, it has settled n events and written `said`, and the last of the calls ks is under way: it has
+  -- taken the events `now` of those that it takes in all.
   pub record Within (m : Model) (n : ℕ) (said : List Entry) (ks : List Call) : Type 0 where
     pub before : ℕ
     pub now : List Event
@@ -163,7 +163,10 @@ module _ (s : Setting) where
   turned-waiting : (m : Model) (es : List Event) (x : Effect) → m .waiting ≡ Handed x
       → turned ch max record { machine = m; settled = es } ≡ record { machine = m; settled = es }
   turned-waiting m es x e =
-      λ j. record { machine = turnBy ch max m (e j) (m .left) (m .queue); settled = noted (takenBy (e j) (m .left) (m .queue)) es }
+      λ j. record {
+        machine = turnBy ch max m (e j) (m .left) (m .queue);
+        settled = noted (takenBy (e j) (m .left) (m .queue)) es;
+      }
 
   through : (m : Model) (n : ℕ) (said : List Entry) (ks : List Call) (h : Within m n said ks)
       → turned ch max record { machine = m; settled = h .now } ≡ record { machine = m; settled = h .now } → Through m n ks
@@ -228,7 +231,8 @@ module _ (s : Setting) where
       let v : Waiting = r .machine .waiting in
       let f : last (k ∷ ks) ≡ r .machine = ap (λ (y : Expected). y .machine) g in
       let logged : log (k ∷ ks) ≡ items v (r .settled) ++ log ks =
-      ap (λ (y : Expected). (handedBy record { number = y .number; effect = y .effect } ++ map Taken (y .settled)) ++ log ks) g in
+      ap (λ (y : Expected). (handedBy record { number = y .number; effect = y .effect } ++ map Taken (y .settled)) ++ log ks)
+      g in
       let lined : lines (k ∷ ks) ≡ lines ks ++ (lineBy (r .machine) v ∷ []) =
       ap (λ (y : Expected). lines ks ++ (lineBy (y .machine) (y .effect) ∷ [])) g in
       record {

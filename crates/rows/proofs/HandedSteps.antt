@@ -1,6 +1,6 @@
--- What every step of a run keeps. The run stands within an E line, with a call under way, or between two, with the dispatch over
--- and the lines of all calls written; at the end of the sheet T lines follow. A step that makes a call begins with a machine at
--- rest; any other step is a turn, or leaves the machine as it is.
+-- What every step of a run keeps. The run stands in an E line, with a call under way, or between two, with the dispatch over
+-- and the lines of all calls written; at the end of the sheet T lines follow. A step that makes a call begins with a machine
+-- at rest; any other step is a turn, or leaves the machine as it is.
 use mathlib.Core.Path.{_≡_, refl, sym, subst, ap, _∙_}
 use mathlib.Core.Logic.{_⊎_, inl, inr, ⊎-elim}
 use mathlib.Core.Bool.{Bool, true, false}
@@ -30,7 +30,7 @@ use Rattle.lines.specs.declared.Row.{Row}
 use Rattle.lines.specs.declared.Row.the-variants as R
 use Rattle.driver.specs.declared.Stage.{Stage}
 use Rattle.driver.specs.declared.Stage.the-variants.{Rests}
-use Rattle.driver.specs.Run.{Entry, Effected, Settled·in, Told, Setting, Point, Step, settledIs, toldIs, onward, silent, stopped, answered, answering, turned, handed, handing, taking, finishing, telling, begun, reading, stageBy, stepBy, stepFrom}
+use Rattle.driver.specs.Run.{Entry, Effected, Settled·in, Told, Setting, Point, Step, settledIs, onward, silent, stopped, answered, answering, turned, handed, handing, taking, finishing, telling, begun, reading, stageBy, stepBy, stepFrom}
 use Rattle.history.specs.History.{Call, Begin, Reply·to, settled}
 use Rattle.rows.specs.Rows.{tLines}
 use Rattle.rows.specs.Handed.{replyAt, beginAt, callBy, callAt, effectsIn, lineBy, endLines, Unwritten, nothing, tellings, underWay}
@@ -102,8 +102,11 @@ module _ (s : Setting) where
     pub early : ((told ≡ 0) × (lines s ks ≡ said)) ⊎ (rs ≡ [])
     pub effects : Effects s ks
 
-  abbrev pub Stands : Point → List Entry → List Call → Type 0
-  Stands p said ks = During (p .machine) (p .settled) (p .told) (p .work) said ks ⊎ (p .work ≡ 0) × Between (p .machine) (p .settled) (p .told) (p .rows) said ks
+  abbrev pub Busy : Point → List Entry → List Call → Type 0
+  Busy p said ks = During (p .machine) (p .settled) (p .told) (p .work) said ks
+
+  abbrev pub Free : Point → List Entry → List Call → Type 0
+  Free p said ks = Between (p .machine) (p .settled) (p .told) (p .rows) said ks
 
   pub record At (next n : ℕ) (stands : Type 0) : Type 0 where
     pub line : 0 < next
@@ -111,7 +114,7 @@ module _ (s : Setting) where
     pub here : stands
 
   abbrev pub Standing : Point → List Entry → List Call → Type 0
-  Standing p said ks = At (p .line) (p .settled) (Stands p said ks)
+  Standing p said ks = At (p .line) (p .settled) (Busy p said ks ⊎ (p .work ≡ 0) × Free p said ks)
 
   pub effects-at : (p : Point) (said : List Entry) (ks : List Call) → Standing p said ks → Effects s ks
   effects-at p said ks h = ⊎-elim (λ d. d .within .effects) (λ b. b .1 .effects) (h .here)
@@ -138,6 +141,7 @@ module _ (s : Setting) where
     pub left : (room : ℕ) → Unwritten room said (ends ks) number rest
     pub same : (number ≡ 9 → ⊥) → n ≡ settled (log s ks)
     pub past : number ≡ 9 → (n ≡ s .limit) × (s .limit < settled (log s ks))
+    pub rested : (number ≡ 9 → ⊥) → last s ks .waiting ≡ Nothing
 
   abbrev Stops : Bool → Point → List Entry → List Call → Type 0
   Stops going p said ks = going ≡ true → p .going ≡ false → Stopped (p .settled) (p .number) said ks
@@ -147,7 +151,8 @@ module _ (s : Setting) where
     pub speaks : (t .said ≡ []) ⊎ Spoken said ks t
     pub stops : Stops going (t .point) (said ++ t .said) ks
 
-  silently : (going : Bool) (said : List Entry) (ks : List Call) (p : Point) → Standing p said ks → Stops going p said ks → After going said ks (silent p)
+  silently : (going : Bool) (said : List Entry) (ks : List Call) (p : Point) → Standing p said ks → Stops going p said ks
+      → After going said ks (silent p)
   silently going said ks p h g =
       let e : said ≡ said ++ [] = sym (append-nil said) in
       record {
@@ -157,11 +162,19 @@ module _ (s : Setting) where
       }
 
   -- The lines of the calls are written but for this one.
-  up-to : (said : List Entry) (ks : List Call) (e : Entry) → lines s ks ≡ said ++ (e ∷ []) → lines s ks ++ ends ks ≡ said ++ (e ∷ ends ks)
+  up-to : (said : List Entry) (ks : List Call) (e : Entry) → lines s ks ≡ said ++ (e ∷ [])
+      → lines s ks ++ ends ks ≡ said ++ (e ∷ ends ks)
   up-to said ks e h = ap (λ (es : List Entry). es ++ ends ks) h ∙ append-assoc said (e ∷ []) (ends ks)
 
   pub ends-quiet : (ks : List Call) → effectsIn (ends ks) ≡ []
   ends-quiet ks = tell-quiet (s .chain) (last s ks .core .statuses) 0
+
+  replies : (said : List Entry) (ks : List Call) (p : Point) (x : Effect) (a : Reply) → 0 < p .line → p .settled ≤ s .limit
+      → p .machine .waiting ≡ Handed x → Busy p said ks → After (p .going) said (Reply·to a ∷ ks) (silent (answered a p))
+  replies said ks p x a line low e d =
+      let w = replying s (p .machine) (p .settled) said ks x a e (d .within) in
+      silently (p .going) said (Reply·to a ∷ ks) (answered a p)
+      record { line = line; low = low; here = inl record { within = w; early = d .early; busy = d .busy } } goes
 
   module _ (said : List Entry) (ks : List Call) (p : Point) (h : Standing p said ks) where
     abbrev m : Model
@@ -173,40 +186,37 @@ module _ (s : Setting) where
     abbrev next : Model
     next = turnOf (s .chain) (s .maxRetry) m
 
-    abbrev Busy : Type 0
-    Busy = During m n (p .told) (p .work) said ks
-
-    abbrev Free : Type 0
-    Free = Between m n (p .told) (p .rows) said ks
-
-    -- Where an effect waits, is left or an event is queued, the run is in an E line.
-    busy-by : ((i : Idle m) → Busy) → Busy
+    -- Where an effect waits or is left, or an event is queued, the run is in an E line.
+    busy-by : (Idle m → Busy p said ks) → Busy p said ks
     busy-by f = ⊎-elim (λ d. d) (λ b. f (b .1 .idle)) (h .here)
 
     -- ---- An effect waits
-    replies : (rs : List Row) (next : ℕ) (x : Effect) (a : Reply) → 0 < next → m .waiting ≡ Handed x → (q : Point) → q ≡ answered a record { machine = m; rows = rs; line = next; work = p .work; settled = n; told = p .told; going = p .going; number = p .number; place = p .place }
-        → After (p .going) said (Reply·to a ∷ ks) (silent q)
-    replies rs next x a l e q same =
-        let d : Busy = busy-by (λ i. not-waiting (m .waiting) x (i .0) e) in
-        subst (λ (v : Point). After (p .going) said (Reply·to a ∷ ks) (silent v)) (sym same)
-        (silently (p .going) said (Reply·to a ∷ ks) _ record { line = l; low = h .low; here = inl record { within = replying s m n said ks x a e (d .within); early = d .early; busy = d .busy } } goes)
+    waits : (rs : List Row) (x : Effect) → m .waiting ≡ Handed x
+        → After (p .going) said (Reply·to (replyAt rs) ∷ ks) (silent (answering p rs))
+    waits rs x e = by-row rs
+      where
+        busy : Busy p said ks
+        busy = busy-by (λ i. not-waiting (m .waiting) x (i .0) e)
 
-    waits : (rs : List Row) (x : Effect) → m .waiting ≡ Handed x → After (p .going) said (Reply·to (replyAt rs) ∷ ks) (silent (answering p rs))
-    waits [] x e = replies (p .rows) (p .line) x Done (h .line) e _ refl
-    waits (R.Retry k ∷ rs) x e = replies (p .rows) (p .line) x Done (h .line) e _ refl
-    waits (R.Card c ∷ rs) x e = replies (p .rows) (p .line) x Done (h .line) e _ refl
-    waits (R.Begin v ∷ rs) x e = replies (p .rows) (p .line) x Done (h .line) e _ refl
-    waits (R.Answer a ∷ rs) x e = replies rs (p .line + 1) x a (omega arith) e _ refl
-    waits (R.Bad ∷ rs) x e = replies (p .rows) (p .line) x Done (h .line) e _ refl
+        by-row : (rs : List Row) → After (p .going) said (Reply·to (replyAt rs) ∷ ks) (silent (answering p rs))
+        by-row [] = replies said ks p x Done (h .line) (h .low) e busy
+        by-row (R.Retry k ∷ rs) = replies said ks p x Done (h .line) (h .low) e busy
+        by-row (R.Card c ∷ rs) = replies said ks p x Done (h .line) (h .low) e busy
+        by-row (R.Begin v ∷ rs) = replies said ks p x Done (h .line) (h .low) e busy
+        by-row (R.Answer a ∷ rs) = replies said ks (onward rs p) x a (omega arith) (h .low) e busy
+        by-row (R.Bad ∷ rs) = replies said ks p x Done (h .line) (h .low) e busy
 
     -- ---- A turn
     -- One that takes no event.
-    turns : m .waiting ≡ Nothing → nextEvent m ≡ NoEvent → Busy → Within s next n (said ++ handed (next .waiting)) ks
-    turns e o d = subst (λ (v : OptionEvent). Within s next (tally v n) (said ++ handed (next .waiting)) ks) o (turning s m n said ks e (d .within))
+    turns : m .waiting ≡ Nothing → nextEvent m ≡ NoEvent → Busy p said ks
+        → Within s next n (said ++ handed (next .waiting)) ks
+    turns e o d =
+        subst (λ (v : OptionEvent). Within s next (tally v n) (said ++ handed (next .waiting)) ks) o
+        (turning s m n said ks e (d .within))
 
     hands-out : (x : Effect) (b : List Effect) → m .waiting ≡ Nothing → m .left ≡ x ∷ b → After (p .going) said ks (handing s p)
     hands-out x b e l =
-        let d : Busy = busy-by (λ i. not-empty (m .left) x b (idle-parts m i .0) l) in
+        let d : Busy p said ks = busy-by (λ i. not-empty (m .left) x b (idle-parts m i .0) l) in
         let w : Within s next n (said ++ handed (next .waiting)) ks = turns e (λ j. takenBy (e j) (l j) (m .queue)) d in
         record {
           stands = record { line = h .line; low = h .low; here = inl record { within = w; early = d .early; busy = d .busy } };
@@ -214,40 +224,56 @@ module _ (s : Setting) where
           stops = goes;
         }
       where
-        by-effect : Within s next n (said ++ handed (next .waiting)) ks → (v : Waiting) → next .waiting ≡ v → (handed (next .waiting) ≡ []) ⊎ Spoken said ks (handing s p)
+        by-effect : Within s next n (said ++ handed (next .waiting)) ks → (v : Waiting) → next .waiting ≡ v
+            → (handed (next .waiting) ≡ []) ⊎ Spoken said ks (handing s p)
         by-effect w Nothing f = inl (ap handed f)
         by-effect w (Handed y) f =
             inr record {
               line = Effected y;
               rest = ends ks;
               this = ap handed f;
-              first = up-to said ks (Effected y) (w .written ∙ ap (λ (v : Waiting). (said ++ handed v) ++ due v (last s ks)) f ∙ append-nil (said ++ (Effected y ∷ [])));
+              first = up-to said ks (Effected y)
+                  (w .written ∙ ap (λ (v : Waiting). (said ++ handed v) ++ due v (last s ks)) f
+                  ∙ append-nil (said ++ (Effected y ∷ [])));
               few = omega arith;
               quiet = ends-quiet ks;
               count = waiting-through s next n (said ++ handed (next .waiting)) ks y f w .count;
             }
 
-    takes : (e : Event) (q : List Event) → m .waiting ≡ Nothing → m .left ≡ [] → m .queue ≡ e ∷ q → After (p .going) said ks (silent (taking s p))
+    takes : (e : Event) (q : List Event) → m .waiting ≡ Nothing → m .left ≡ [] → m .queue ≡ e ∷ q
+        → After (p .going) said ks (silent (taking s p))
     takes e q w l r =
-        let d : Busy = busy-by (λ i. not-empty (m .queue) e q (idle-parts m i .1) r) in
+        let d : Busy p said ks = busy-by (λ i. not-empty (m .queue) e q (idle-parts m i .1) r) in
         let o : nextEvent m ≡ OneEvent e = λ j. takenBy (w j) (l j) (r j) in
         let v : next .waiting ≡ Nothing = (λ j. turnBy (s .chain) (s .maxRetry) m (w j) (l j) (r j) .waiting) ∙ w in
-        let t : Within s next (n + 1) said ks = subst (λ (es : List Entry). Within s next (n + 1) es ks) (ap (λ (u : Waiting). said ++ handed u) v ∙ append-nil said)
-        (subst (λ (u : OptionEvent). Within s next (tally u n) (said ++ handed (next .waiting)) ks) o (turning s m n said ks w (d .within))) in
+        let t : Within s next (n + 1) (said ++ handed (next .waiting)) ks =
+        subst (λ (u : OptionEvent). Within s next (tally u n) (said ++ handed (next .waiting)) ks) o
+        (turning s m n said ks w (d .within)) in
+        let quiet : Within s next (n + 1) said ks =
+        subst (λ (es : List Entry). Within s next (n + 1) es ks)
+        (ap (λ (u : Waiting). said ++ handed u) v ∙ append-nil said) t in
+        let line : Entry = lineBy (last s ks) (last s ks .waiting) in
         pickP (λ (x : Point). After (p .going) said ks (silent x)) (leb (s .limit) n)
         (λ f. silently (p .going) said ks (stopped 9 0 p) record { line = h .line; low = h .low; here = inl d }
-        (λ a b. record {
-          rest = lineBy (last s ks) (last s ks .waiting) ∷ ends ks;
-          first = up-to said ks (lineBy (last s ks) (last s ks .waiting)) (d .within .written ∙ ap (λ (u : Waiting). said ++ due u (last s ks)) w);
+        (λ a b. let full : n ≡ s .limit = omega (arith, h .low, leb-true (s .limit) n f) in
+        record {
+          rest = line ∷ ends ks;
+          first = up-to said ks line (d .within .written ∙ ap (λ (u : Waiting). said ++ due u (last s ks)) w);
           few = omega arith;
-          one = one-effect (lineBy (last s ks) (last s ks .waiting)) (ends ks) (ends-quiet ks);
+          one = one-effect line (ends ks) (ends-quiet ks);
           none = λ k. absurd (k refl);
-          left = λ room. underWay (lineBy (last s ks) (last s ks .waiting));
+          left = λ room. underWay line;
           same = λ k. absurd (k refl);
-          past = λ k. let full : n ≡ s .limit = omega (arith, h .low, leb-true (s .limit) n f) in (full, omega (arith, full, taking-more s m n said ks e o (d .within)));
+          past = λ k. (full, omega (arith, full, taking-more s m n said ks e o (d .within)));
+          rested = λ k. absurd (k refl);
         }))
         (λ f. silently (p .going) said ks (settledIs (n + 1) (turned s p))
-        record { line = h .line; low = omega (arith, leb-false (s .limit) n f); here = inl record { within = t; early = d .early; busy = d .busy } } goes)
+        record {
+          line = h .line;
+          low = omega (arith, leb-false (s .limit) n f);
+          here = inl record { within = quiet; early = d .early; busy = d .busy };
+        }
+        goes)
 
     -- The turn that ends the dispatch, with nothing left and nothing queued.
     over : m .waiting ≡ Nothing → m .left ≡ [] → m .queue ≡ [] → Idle next
@@ -255,17 +281,21 @@ module _ (s : Setting) where
         subst Idle (λ j. turnBy (s .chain) (s .maxRetry) m (sym e j) (sym l j) (sym q j))
         (e, subst (λ (w : Waiting). RestsBy w (m .left) (m .queue) false) (sym e) (l, q, refl))
 
-    finishes : m .waiting ≡ Nothing → m .left ≡ [] → m .queue ≡ [] → (p .work ≡ 0 → ⊥) → After (p .going) said ks (finishing s p)
+    finishes : m .waiting ≡ Nothing → m .left ≡ [] → m .queue ≡ [] → (p .work ≡ 0 → ⊥)
+        → After (p .going) said ks (finishing s p)
     finishes e l q work =
-        let d : Busy = ⊎-elim (λ x. x) (λ b. absurd (work (b .0))) (h .here) in
+        let d : Busy p said ks = ⊎-elim (λ x. x) (λ b. absurd (work (b .0))) (h .here) in
         let i : Idle next = over e l q in
         let w : Within s next n (said ++ handed (next .waiting)) ks = turns e (λ j. takenBy (e j) (l j) (q j)) d in
         let t : Through s next n ks = rest-through s next n (said ++ handed (next .waiting)) ks (i .1) w in
         let core : next .core ≡ m .core = λ j. turnBy (s .chain) (s .maxRetry) m (e j) (l j) (q j) .core in
         let line : Entry = Settled·in (m .core .state) in
         let here : lineBy (last s ks) (last s ks .waiting) ≡ line =
-        (λ j. lineBy (sym (t .machine) j) (sym (t .machine) j .waiting)) ∙ ap (lineBy next) (i .0) ∙ (λ j. Settled·in (core j .state)) in
-        let all : lines s ks ≡ said ++ (line ∷ []) = d .within .written ∙ ap (λ (v : Waiting). said ++ due v (last s ks)) e ∙ ap (λ (x : Entry). said ++ (x ∷ [])) here in
+        (λ j. lineBy (sym (t .machine) j) (sym (t .machine) j .waiting)) ∙ ap (lineBy next) (i .0)
+        ∙ (λ j. Settled·in (core j .state)) in
+        let all : lines s ks ≡ said ++ (line ∷ []) =
+        d .within .written ∙ ap (λ (v : Waiting). said ++ due v (last s ks)) e
+        ∙ ap (λ (x : Entry). said ++ (x ∷ [])) here in
         record {
           stands = record {
             line = h .line;
@@ -281,24 +311,37 @@ module _ (s : Setting) where
               },
             );
           };
-          speaks = inr record { line = line; rest = ends ks; this = refl; first = up-to said ks line all; few = omega arith; quiet = ends-quiet ks; count = t .count };
+          speaks = inr record {
+            line = line;
+            rest = ends ks;
+            this = refl;
+            first = up-to said ks line all;
+            few = omega arith;
+            quiet = ends-quiet ks;
+            count = t .count;
+          };
           stops = goes;
         }
 
     -- ---- The next line, with no event at work
-    module _ (work : p .work ≡ 0) (b : Free) where
+    module _ (work : p .work ≡ 0) (b : Free p said ks) where
       -- Before the end of the sheet.
       before : (r : Row) (rs : List Row) → p .rows ≡ r ∷ rs → (p .told ≡ 0) × (lines s ks ≡ said)
       before r rs e = ⊎-elim (λ x. x) (λ x. not-empty (p .rows) r rs x e) (b .early)
 
-      begins : (e : Event) (rs : List Row) → p .rows ≡ R.Begin e ∷ rs → After (p .going) said (Begin e ∷ ks) (silent (onward rs (begun e p)))
+      rested : last s ks .waiting ≡ Nothing
+      rested = ap (λ (l : Model). l .waiting) (sym (b .through .machine)) ∙ b .idle .0
+
+      begins : (e : Event) (rs : List Row) → p .rows ≡ R.Begin e ∷ rs
+          → After (p .going) said (Begin e ∷ ks) (silent (onward rs (begun e p)))
       begins e rs r =
           let f = before (R.Begin e) rs r in
+          let w = beginning s m n said ks e (b .idle) (b .through) (f .1) (b .effects) in
           silently (p .going) said (Begin e ∷ ks) (onward rs (begun e p))
           record {
             line = omega (arith, h .line);
             low = h .low;
-            here = inl record { within = beginning s m n said ks e (b .idle) (b .through) (f .1) (b .effects); early = f .0; busy = λ v. absurd (omega (arith, h .line, v)) };
+            here = inl record { within = w; early = f .0; busy = λ v. absurd (omega (arith, h .line, v)) };
           }
           goes
 
@@ -311,8 +354,10 @@ module _ (s : Setting) where
           (λ f.
           let first : lines s ks ++ ends ks ≡ said ++ (line ∷ rest) = b .written
           ∙ ap (λ (l : Model). said ++ drop (p .told) (tLines (s .chain) (l .core .statuses))) (sym (b .through .machine))
-          ∙ ap (λ (es : List Entry). said ++ es) (tell-next (s .chain) (m .core .statuses) (p .told) z (ltb-true (p .told) (length (s .chain)) f))
-          ∙ ap (λ (l : Model). said ++ (line ∷ drop (suc (p .told)) (tLines (s .chain) (l .core .statuses)))) (b .through .machine) in
+          ∙ ap (λ (es : List Entry). said ++ es)
+          (tell-next (s .chain) (m .core .statuses) (p .told) z (ltb-true (p .told) (length (s .chain)) f))
+          ∙ ap (λ (l : Model). said ++ (line ∷ drop (suc (p .told)) (tLines (s .chain) (l .core .statuses))))
+          (b .through .machine) in
           let more : suc (p .told) ≡ p .told + 1 = omega arith in
           record {
             stands = record {
@@ -323,34 +368,54 @@ module _ (s : Setting) where
                 record {
                   idle = b .idle;
                   through = b .through;
-                  written = first ∙ sym (append-assoc said (line ∷ []) rest) ∙ ap (λ (k : ℕ). (said ++ (line ∷ [])) ++ drop k (ends ks)) more;
+                  written = first ∙ sym (append-assoc said (line ∷ []) rest)
+                      ∙ ap (λ (k : ℕ). (said ++ (line ∷ [])) ++ drop k (ends ks)) more;
                   early = inr r;
                   effects = b .effects;
                 },
               );
             };
-            speaks = inr record { line = line; rest = rest; this = refl; first = first; few = omega (arith, length-drop (suc (p .told)) (ends ks)); quiet = tell-quiet (s .chain) (last s ks .core .statuses) (suc (p .told)); count = b .through .count };
+            speaks = inr record {
+              line = line;
+              rest = rest;
+              this = refl;
+              first = first;
+              few = omega (arith, length-drop (suc (p .told)) (ends ks));
+              quiet = tell-quiet (s .chain) (last s ks .core .statuses) (suc (p .told));
+              count = b .through .count;
+            };
             stops = goes;
           })
           (λ f. silently (p .going) said ks (stopped 0 0 p) record { line = h .line; low = h .low; here = inr (work, b) }
-          (λ x y. record {
+          (λ x y.
+          let all : length (ends ks) ≤ p .told =
+          omega (arith, tell-few (s .chain) (last s ks .core .statuses), ltb-false (p .told) (length (s .chain)) f) in
+          record {
             rest = [];
-            first = b .written ∙ ap (λ (es : List Entry). said ++ es) (drop-of-length-le (ends ks) {i = p .told} (omega (arith, tell-few (s .chain) (last s ks .core .statuses), ltb-false (p .told) (length (s .chain)) f)));
+            first = b .written ∙ ap (λ (es : List Entry). said ++ es) (drop-of-length-le (ends ks) all);
             few = omega arith;
             one = omega arith;
             none = λ k. refl;
             left = λ room. nothing;
             same = λ k. b .through .count;
             past = λ k. absurd (omega (arith, k));
+            rested = λ k. rested;
           }))
 
       passes : (r : Row) (rs : List Row) → p .rows ≡ r ∷ rs → After (p .going) said ks (silent (onward rs p))
       passes r rs e =
+          let free : Free (onward rs p) said ks = record {
+            idle = b .idle;
+            through = b .through;
+            written = b .written;
+            early = inl (before r rs e);
+            effects = b .effects;
+          } in
           silently (p .going) said ks (onward rs p)
-          record { line = omega (arith, h .line); low = h .low; here = inr (work, record { idle = b .idle; through = b .through; written = b .written; early = inl (before r rs e); effects = b .effects }) }
-          goes
+          record { line = omega (arith, h .line); low = h .low; here = inr (work, free) } goes
 
-      refuses : (a : Reply) (rs : List Row) → p .rows ≡ R.Answer a ∷ rs → After (p .going) said ks (silent (stopped 7 (p .line) p))
+      refuses : (a : Reply) (rs : List Row) → p .rows ≡ R.Answer a ∷ rs
+          → After (p .going) said ks (silent (stopped 7 (p .line) p))
       refuses a rs e =
           silently (p .going) said ks (stopped 7 (p .line) p) record { line = h .line; low = h .low; here = inr (work, b) }
           (λ x y. record {
@@ -362,9 +427,11 @@ module _ (s : Setting) where
             left = λ room. tellings;
             same = λ k. b .through .count;
             past = λ k. absurd (omega (arith, k));
+            rested = λ k. rested;
           })
 
-      reads : (rs : List Row) → p .rows ≡ rs → length (m .core .statuses) ≡ length (s .chain) → After (p .going) said (beginAt rs ++ ks) (reading s p rs)
+      reads : (rs : List Row) → p .rows ≡ rs → length (m .core .statuses) ≡ length (s .chain)
+          → After (p .going) said (beginAt rs ++ ks) (reading s p rs)
       reads [] r z = tells r z
       reads (R.Retry k ∷ rs) r z = passes (R.Retry k) rs r
       reads (R.Card c ∷ rs) r z = passes (R.Card c) rs r
@@ -380,11 +447,15 @@ module _ (s : Setting) where
       rests : m .waiting ≡ Nothing → m .left ≡ [] → m .queue ≡ [] → Steps Rests
       rests e l q = by-work (eqb (p .work) 0) refl
         where
-          by-work : (t : Bool) → eqb (p .work) 0 ≡ t → After (p .going) said (pick t (beginAt (p .rows)) [] ++ ks) (pick t (reading s p (p .rows)) (finishing s p))
-          by-work true t = reads (eqb-true (p .work) 0 t) (⊎-elim (λ d. absurd (d .busy (eqb-true (p .work) 0 t))) (λ b. b .1) (h .here)) (p .rows) refl z
+          by-work : (t : Bool) → eqb (p .work) 0 ≡ t
+              → After (p .going) said (pick t (beginAt (p .rows)) [] ++ ks) (pick t (reading s p (p .rows)) (finishing s p))
+          by-work true t =
+              let free : p .work ≡ 0 = eqb-true (p .work) 0 t in
+              reads free (⊎-elim (λ d. absurd (d .busy free)) (λ b. b .1) (h .here)) (p .rows) refl z
           by-work false t = finishes e l q (eqb-false (p .work) 0 t)
 
-      by-stage : (w : Waiting) (b : List Effect) (q : List Event) → m .waiting ≡ w → m .left ≡ b → m .queue ≡ q → Steps (stageBy w b q)
+      by-stage : (w : Waiting) (b : List Effect) (q : List Event) → m .waiting ≡ w → m .left ≡ b → m .queue ≡ q
+          → Steps (stageBy w b q)
       by-stage (Handed x) b q e l r = waits (p .rows) x e
       by-stage Nothing (x ∷ b) q e l r = hands-out x b e l
       by-stage Nothing [] (v ∷ q) e l r = takes v q e l r

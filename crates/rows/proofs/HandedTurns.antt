@@ -1,7 +1,7 @@
 -- The turns of a call under way lead to the machine that the call gives, and to the events that it settles: a turn more leads
 -- there too, and a machine at rest is that machine, with all the events taken.
 use mathlib.Core.Path.{_≡_, refl, sym, subst, ap, _∙_}
-use mathlib.Core.List.{List, [], _∷_}
+use mathlib.Core.List.{List, []}
 use Prim.Native.Nat.{ℕ, zero, suc, _+_, _≤_}
 use native.Mathlib.Omega.{arith}
 use lib.ListN.{length}

@@ -1,6 +1,6 @@
 -- Every run ends, whatever the room and the limit: a run has more steps than there is to do, and each step leaves less to do.
 -- For that at most 512 effects may be left, which is so since one event hands out at most 2 N + 1, with N at most 255.
-use mathlib.Core.Path.{_≡_, refl, sym, ap, _∙_}
+use mathlib.Core.Path.{_≡_, refl, ap, _∙_}
 use mathlib.Core.Bool.{Bool, true, false}
 use mathlib.Core.List.{List, [], _∷_}
 use Prim.Native.Nat.{ℕ, zero, suc, _+_, _≤_, _<_}
@@ -20,7 +20,7 @@ use Rattle.settling.specs.declared.Reply.{Reply}
 use Rattle.settling.specs.declared.Reply.the-variants.{Done, Then, Failed}
 use Rattle.settling.specs.declared.Waiting.{Waiting}
 use Rattle.settling.specs.declared.Waiting.the-variants.{Nothing, Handed}
-use Rattle.settling.specs.Settle.{Model, waitingIs, leftIs, fail, enqueue, replied, handOut, turnBy, turnOf}
+use Rattle.settling.specs.Settle.{Model, waitingIs, leftIs, enqueue, replied, handOut, turnBy, turnOf}
 use Rattle.settling.proofs.Views.{never}
 use Rattle.sm.specs.Calls.{startOf}
 use Rattle.lines.specs.declared.Row.{Row}
@@ -28,10 +28,10 @@ use Rattle.lines.specs.declared.Row.the-variants.{Retry, Card, Begin, Answer, B
 use Rattle.reader.specs.Read.{rowsIn, cardsIn}
 use Rattle.driver.specs.declared.Stage.{Stage}
 use Rattle.driver.specs.declared.Stage.the-variants.{Waits, HandsOut, Takes, Rests}
-use Rattle.driver.specs.Run.{Entry, Setting, Point, Step, Progress, startPoint, answering, taking, telling, reading, finishing, transcript, stageOf, stepBy, stepFrom, recorded, steps, toDo, runFrom}
+use Rattle.driver.specs.Run.{Entry, Setting, Point, Step, Progress, startPoint, answering, reading, transcript, stageOf, stepBy, stepFrom, recorded, steps, toDo, runFrom}
 use Rattle.driver.proofs.Less.{step-less}
 use Rattle.history.proofs.Few.{Reached, step-reached, step-few, start-reached}
-use Rattle.sheet.specs.Sheet.{chainIn, progressOf}
+use Rattle.sheet.specs.Sheet.{progressOf}
 use Rattle.rows.specs.Handed.{RunsEnd}
 
 module _ (s : Setting) (n255 : length (s .chain) ≤ 255) where

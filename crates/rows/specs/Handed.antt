@@ -132,12 +132,13 @@ pub data Unwritten (room : ℕ) (said ts : List Entry) : ℕ → List Entry → 
   unfit : (e : Entry) (es : List Entry) → room < length (transcript (said ++ (e ∷ []))) → Unwritten room said ts 8 (e ∷ es)
   underWay : (e : Entry) → Unwritten room said ts 9 (e ∷ ts)
 
--- The lines of a run are the first of these: one for each call, then the T lines. Of the calls' lines at most one is not
--- written.
+-- The lines of a run are the first of these, as many as fit: one for each call, then the T lines. Of the calls' lines at most
+-- one is not written.
 pub record FirstLines (run : Outcome) (room : ℕ) (lines ts : List Entry) : Type 0 where
   pub rest : List Entry
   pub first : lines ++ ts ≡ run .said ++ rest
   pub few : length rest ≤ suc (length ts)
+  pub fits : length (transcript (run .said)) ≤ room
   pub ends : Unwritten room (run .said) ts (run .number) rest
 
 -- The run settled the events that the calls settled, and these are within the limit; or it stopped at the limit with 9, and the
@@ -159,8 +160,10 @@ module _ (s : List ℕ) (room limit : ℕ) (rs : List Answered) where
   abbrev pub CountOf : Type 0
   CountOf = Counted (runOf s room limit) limit (logOf (chainIn s) (retryIn s) (callsOf s room limit) rs)
 
+  -- Also no call is refused, and a run that ends with 0 leaves no effect waiting.
   pub record Tied : Type 0 where
     pub granted : Granted rs
+    pub rested : runOf s room limit .number ≡ 0 → machineAfter (chainIn s) (retryIn s) (callsOf s room limit) .waiting ≡ Nothing
     pub effects : FirstOf
     pub lines : LinesOf
     pub settled : CountOf
