@@ -79,7 +79,7 @@ module _ (s : Setting) (n255 : length (s .chain) ≤ 255) (room : ℕ) where
     effects = record {
       rest = effectsIn (h .rest);
       first = effects-split ks (o .said) (h .rest) x (h .first);
-      few = h .one;
+      few = omega (arith, h .one);
       all = λ n8 n9. h .none n9;
     };
     lines·of = record { rest = h .rest; first = h .first; few = h .few; fits = fits; ends = h .left room };

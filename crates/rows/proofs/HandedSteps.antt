@@ -167,7 +167,7 @@ module _ (s : Setting) where
   up-to said ks e h = ap (λ (es : List Entry). es ++ ends ks) h ∙ append-assoc said (e ∷ []) (ends ks)
 
   pub ends-quiet : (ks : List Call) → effectsIn (ends ks) ≡ []
-  ends-quiet ks = tell-quiet (s .chain) (last s ks .core .statuses) 0
+  ends-quiet ks = tell-quiet (s .chain) _ 0
 
   replies : (said : List Entry) (ks : List Call) (p : Point) (x : Effect) (a : Reply) → 0 < p .line → p .settled ≤ s .limit
       → p .machine .waiting ≡ Handed x → Busy p said ks → After (p .going) said (Reply·to a ∷ ks) (silent (answered a p))
@@ -381,15 +381,15 @@ module _ (s : Setting) where
               this = refl;
               first = first;
               few = omega (arith, length-drop (suc (p .told)) (ends ks));
-              quiet = tell-quiet (s .chain) (last s ks .core .statuses) (suc (p .told));
+              quiet = tell-quiet (s .chain) _ (suc (p .told));
               count = b .through .count;
             };
             stops = goes;
           })
           (λ f. silently (p .going) said ks (stopped 0 0 p) record { line = h .line; low = h .low; here = inr (work, b) }
           (λ x y.
-          let all : length (ends ks) ≤ p .told =
-          omega (arith, tell-few (s .chain) (last s ks .core .statuses), ltb-false (p .told) (length (s .chain)) f) in
+          let few : length (ends ks) ≤ length (s .chain) = tell-few (s .chain) _ in
+          let all : length (ends ks) ≤ p .told = omega (arith, few, ltb-false (p .told) (length (s .chain)) f) in
           record {
             rest = [];
             first = b .written ∙ ap (λ (es : List Entry). said ++ es) (drop-of-length-le (ends ks) all);
