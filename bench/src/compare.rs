@@ -4,14 +4,9 @@ use mallardtray::Answer;
 
 use crate::sides::{Side, buffer};
 
-/// What both sides give for a sheet: all five numbers, and the transcript.
-#[derive(Debug)]
-pub struct Same {
-    pub answer: Answer,
-}
-
-/// Runs both sides and compares the numbers and every byte of the buffer.
-pub fn both(sheet: &[u8]) -> Result<Same, String> {
+/// What both sides give for a sheet. All five numbers and every byte of the
+/// buffer are compared, and the sheet has to be run to its end.
+pub fn both(sheet: &[u8]) -> Result<Answer, String> {
     let (mut port_out, mut rust_out) = (buffer(), buffer());
     let port = Side::Port.run(sheet, &mut port_out);
     let rust = Side::Rust.run(sheet, &mut rust_out);
@@ -24,5 +19,15 @@ pub fn both(sheet: &[u8]) -> Result<Same, String> {
     if port.number != 0 {
         return Err(format!("refused: {port:?}"));
     }
-    Ok(Same { answer: port })
+    Ok(port)
+}
+
+#[cfg(test)]
+mod tests {
+    use super::*;
+
+    #[test]
+    fn a_sheet_that_is_refused_is_no_workload() {
+        assert!(both(b"").is_err());
+    }
 }

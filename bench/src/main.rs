@@ -90,7 +90,7 @@ fn time(repetitions: usize) -> Result<(), String> {
     println!("|---|--:|--:|--:|--:|--:|--:|--:|--:|--:|");
     for (workload, size) in each() {
         let sheet = workload.sheet(size);
-        let answer = both(&sheet)?.answer;
+        let answer = both(&sheet)?;
         let pairs = pairs(&sheet, repetitions);
         println!(
             "| {} | {size} | {} | {} | {} | {} |",

@@ -22,12 +22,13 @@ const WIDTH: f64 = 360.0;
 const HEIGHT: f64 = 300.0;
 const LEFT: f64 = 70.0;
 const TOP: f64 = 40.0;
-/// Between two panels.
-const GAP: f64 = 60.0;
+/// Between two panels, and right of the last.
+const GAP: f64 = 100.0;
+const RIGHT: f64 = 24.0;
 /// Below the panels: the numbers and the name of the axis, and the legend.
 const BELOW: f64 = 110.0;
 
-/// A logarithmic axis from one power of ten to another, or between two places.
+/// A logarithmic axis.
 #[derive(Clone, Copy)]
 struct Axis {
     low: f64,
@@ -51,7 +52,7 @@ pub fn figure(panels: &[Panel]) -> String {
         length: HEIGHT,
     };
     let count = panels.len() as f64;
-    let width = LEFT + count * (WIDTH + GAP);
+    let width = LEFT + count * (WIDTH + GAP) - GAP + RIGHT;
     let height = TOP + HEIGHT + BELOW;
     let mut svg = format!(
         "<svg xmlns=\"http://www.w3.org/2000/svg\" viewBox=\"0 0 {width} {height}\" \
@@ -94,7 +95,7 @@ fn draw(svg: &mut String, panel: &Panel, vertical: Axis) {
         for (place, _) in &series.points {
             let x = horizontal.at(*place);
             grid(svg, [x, 0.0, x, HEIGHT]);
-            text(svg, x, HEIGHT + 17.0, "middle", &place.to_string());
+            text(svg, x, HEIGHT + 17.0, "middle", &grouped(*place));
         }
     }
     let mut time = vertical.low;

@@ -3,7 +3,7 @@
 use oracle::sheets::Sheet;
 
 use crate::compare::both;
-use crate::plot::{Panel, Series, figure};
+use crate::plot::{Panel, Series, figure, grouped};
 use crate::sides::{SIDES, Side};
 use crate::time::{best, pairs};
 use crate::workloads::{idle, walks};
@@ -45,7 +45,7 @@ pub fn sheets() -> Vec<Vec<u8>> {
 /// The plot as an SVG, with the best of so many times at each point.
 pub fn plot(repetitions: usize) -> Result<String, String> {
     let by_size = Panel {
-        title: format!("{FIXED_EVENTS} events"),
+        title: format!("{} events", grouped(FIXED_EVENTS as f64)),
         axis: "components",
         series: series(&SIZES, repetitions, |kind, size| {
             (kind.sheet)(size, FIXED_EVENTS)

@@ -5,7 +5,7 @@ use mallardtray::Answer;
 use crate::runner;
 
 /// The bytes of the transcript buffer. The longest transcript of a workload is
-/// some 110,000 bytes.
+/// some 97,000 bytes.
 pub const BUFFER: usize = 262_144;
 
 /// The limit of both sides. No workload meets it.

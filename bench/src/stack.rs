@@ -78,3 +78,19 @@ fn changed(body: Body, job: &mut Job) -> usize {
     let kept = stack.iter().take_while(|byte| **byte == FILL).count();
     STACK_BYTES - kept
 }
+
+#[cfg(test)]
+mod tests {
+    use super::*;
+    use crate::workloads::Workload;
+
+    /// More than a page, and far from the end of what was given.
+    #[test]
+    fn both_sides_need_some() {
+        let sheet = Workload::named("fan").unwrap().sheet(8);
+        for side in [Side::Port, Side::Rust] {
+            let bytes = needed(side, &sheet);
+            assert!((PAGE..STACK_BYTES / 2).contains(&bytes), "{bytes}");
+        }
+    }
+}

@@ -7,7 +7,7 @@ mod read;
 mod write;
 
 use mallardtray::Answer;
-use openprot_orchestrator_sm::{Chain, ComponentId, Effect, EffectError, Event};
+use openprot_orchestrator_sm::{Chain, ChainError, Effect, EffectError, Event};
 use oracle::histories::Reply;
 use oracle::lists::answer::Answer as Verdict;
 use oracle::sheets::{Line, Refusal};
@@ -67,8 +67,8 @@ impl Run<'_> {
     ///
     /// - Settled events are counted where they are queued. All that are queued
     ///   are taken before the end, unless 8 wait and one is put out or lost.
-    ///   The count is then too high by one or two. It is also too high where
-    ///   the room ends while events wait.
+    ///   The count is then too high. It can also be too high where the room
+    ///   ends while events wait.
     /// - The limit is put before the event of each E line. If events that are
     ///   fed back go past it, the answer is 9 as well, but the lines that they
     ///   write are there.
@@ -108,8 +108,7 @@ impl Run<'_> {
 
     fn statuses(&mut self, machine: &Rust, components: &Components) -> Result<(), Refusal> {
         for (position, (id, _)) in components.iter().enumerate() {
-            let id: ComponentId = *id;
-            fits(self.transcript.status(id, machine.status(position)))?;
+            fits(self.transcript.status(*id, machine.status(position)))?;
         }
         Ok(())
     }
@@ -135,7 +134,7 @@ fn bad_line(line: usize) -> Refusal {
     Refusal::new(1, line as u64, 0)
 }
 
-fn refused_chain(error: openprot_orchestrator_sm::ChainError) -> Refusal {
+fn refused_chain(error: ChainError) -> Refusal {
     let verdict = Verdict::from(error);
     Refusal::new(
         verdict.number.into(),
