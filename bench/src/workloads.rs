@@ -10,7 +10,6 @@ pub const SIZES: [usize; 4] = [1, 8, 64, 255];
 
 pub struct Workload {
     pub name: &'static str,
-    pub what: &'static str,
     /// The smallest number of components that it makes sense for.
     pub least: usize,
     sheet: fn(usize) -> Sheet,
@@ -19,43 +18,36 @@ pub struct Workload {
 pub const WORKLOADS: [Workload; 7] = [
     Workload {
         name: "boot",
-        what: "cold boot: each component verified and booted, one E line for each event",
         least: 1,
         sheet: boot,
     },
     Workload {
         name: "storm",
-        what: "boot, then recoveries; each holds all and walks again, by replies that feed back",
         least: 1,
         sheet: storm,
     },
     Workload {
         name: "skip",
-        what: "all but the last held; recoveries of the last, each walk passing the held ones",
         least: 2,
         sheet: skip,
     },
     Workload {
         name: "line",
-        what: "each depends on the one before; cascades from the middle, then from each one before",
         least: 2,
         sheet: line,
     },
     Workload {
         name: "fan",
-        what: "a trunk of N/8, all others on its end; cascades from its end to its start",
         least: 2,
         sheet: fan,
     },
     Workload {
         name: "churn",
-        what: "boot, then updates and attestations",
         least: 1,
         sheet: churn,
     },
     Workload {
         name: "idle",
-        what: "events that do nothing",
         least: 1,
         sheet: |size| idle(size, 2_000),
     },
@@ -122,6 +114,7 @@ fn boot_lines(size: usize) -> Vec<Line> {
     lines
 }
 
+/// A cold boot: each component is verified and boots, one E line for each event.
 fn boot(size: usize) -> Sheet {
     sheet(size, required, boot_lines(size))
 }
@@ -140,6 +133,8 @@ fn walk(size: usize, held: usize) -> impl Iterator<Item = Line> {
 /// The events of a storm are about so many, and its sheet short enough.
 const STORM_EVENTS: usize = 1_200;
 
+/// A boot, then recoveries. Each holds all and walks again, by replies that feed
+/// the verdicts back.
 fn storm(size: usize) -> Sheet {
     let mut lines = vec![POWER_GOOD];
     lines.extend(walk(size, 0));
@@ -153,6 +148,8 @@ fn storm(size: usize) -> Sheet {
     sheet(size, required, lines)
 }
 
+/// All but the last are isolated. Then the last is recovered again and again, and
+/// each walk passes the others.
 fn skip(size: usize) -> Sheet {
     let last = id(size - 1);
     let mut lines = vec![POWER_GOOD];
@@ -190,6 +187,8 @@ fn cascades(last: usize) -> Vec<Line> {
     lines
 }
 
+/// Each depends on the one before. Cascades from the middle, then from each one
+/// before it.
 fn line(size: usize) -> Sheet {
     let attrs = |position: usize| match position.checked_sub(1) {
         None => ComponentAttrs::active_cascading(),
@@ -198,6 +197,8 @@ fn line(size: usize) -> Sheet {
     sheet(size, attrs, cascades(size / 2))
 }
 
+/// A trunk of an eighth of them, and all others depend on its end. Cascades from
+/// its end to its start.
 fn fan(size: usize) -> Sheet {
     let trunk = (size / 8).max(1);
     let attrs = |position: usize| match position.checked_sub(1) {
@@ -210,6 +211,7 @@ fn fan(size: usize) -> Sheet {
     sheet(size, attrs, cascades(trunk - 1))
 }
 
+/// A boot, then updates and attestations.
 fn churn(size: usize) -> Sheet {
     let mut lines = boot_lines(size);
     for round in 0..220 {
