@@ -1,4 +1,4 @@
--- Section 3: recovery, each rule from a machine to the next machine and the effects handed out.
+-- Section 3: recovery, each rule from a machine to the next one and the effects of the step.
 use mathlib.Core.List.{List, [], _∷_}
 use Prim.Native.Nat.{ℕ}
 use lib.Dec.{ltb}
