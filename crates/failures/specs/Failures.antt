@@ -13,6 +13,8 @@ use Rattle.machine.specs.Status.{statusAt}
 use Rattle.machine.specs.View.{Core, Out, stay, after}
 use Rattle.corruption.specs.Corruption.{recover, corrupt}
 
+-- es, here and below, are the effects before a recovery. Today they are none in every state: Updating adds nothing here.
+
 -- Timeout, only when awaiting_boot.
 abbrev pub timeout : List Component → List Effect → ComponentId → Core → Out
 timeout ch es i c = pick (statusAt (c .statuses) (position ch i) .«awaiting_boot») (recover ch es i c) (stay c)
