@@ -1,6 +1,6 @@
 -- `printout::refusal_line` meets its contract: a letter, three numbers and the end.
 use mathlib.Core.List.{append-assoc}
-use Rattle.text.proofs.Laws.{chained, begun, grown, rejoined}
+use Rattle.text.proofs.Laws.{begun, grown, rejoined}
 use Rattle.printout.specs.Program.{refusalLine}
 use borrow.Author.Needs.{needs}
 use Rattle.printout.proofs.refusal_line.Statement.{statement}
@@ -27,9 +27,11 @@ push-requires-2 c κs = search needs
 returns : tie.Need-returns
 unfolding refusalLine
 returns c =
-    let lettered = c .before .before .before .before .before in
-    let numbered = begun _ (lettered .empty .ensures) (chained (c .before .before .before .before .push .ensures) (c .before .before .before .push-number .ensures)) in
-    rejoined _ (grown (grown (grown numbered (c .before .before .push-number2 .ensures)) (c .before .push-number3 .ensures)) (c .push2 .ensures)) (simp append-assoc)
+    let empty = c .before .before .before .before .before .empty in
+    let lettered = begun _ (empty .ensures) (c .before .before .before .before .push .ensures) in
+    let numbered = grown lettered (c .before .before .before .push-number .ensures) in
+    let placed = grown (grown numbered (c .before .before .push-number2 .ensures)) (c .before .push-number3 .ensures) in
+    rejoined _ (grown placed (c .push2 .ensures)) (simp append-assoc)
 
 pub refusal-line-spec : {M : Type 1} → statement M
 refusal-line-spec =

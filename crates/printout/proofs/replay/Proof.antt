@@ -13,7 +13,9 @@ lengthened-requires : tie.Need-lengthened-requires
 lengthened-requires c κs = search needs
 
 returns : tie.Need-returns
-returns c = longer-input _ _ (c .before .refusal-line .result) _ (c .before .before .if1 .taken) refl (c .before .refusal-line .ensures) (c .lengthened .ensures)
+returns c =
+    let line = c .before .refusal-line in
+    longer-input _ _ (line .result) _ (c .before .before .if1 .taken) refl (line .ensures) (c .lengthened .ensures)
 
 array-borrow-prefix-bytes : tie.Need-array-borrow-prefix-bytes
 array-borrow-prefix-bytes c = search needs
@@ -38,7 +40,9 @@ lengthened-requires-2 c κs = search needs
 returns-3 : tie.Need-returns-3
 returns-3 c =
     let run = c .before .before .before .before .before .run in
-    refused _ _ _ (run .result) _ (search needs) (run .ensures) (omega arith) (c .before .before .if2 .left) (c .before .refusal-line2 .result) _ (c .before .refusal-line2 .ensures) (c .lengthened2 .ensures)
+    let line = c .before .refusal-line2 in
+    refused _ _ _ (run .result) _ (search needs) (run .ensures) (omega arith) (c .before .before .if2 .left) (line .result) _
+    (line .ensures) (c .lengthened2 .ensures)
 
 pub replay-spec : {M : Type 1} → statement M
 replay-spec =
