@@ -8,7 +8,7 @@ use std::io::{self, BufRead, BufWriter, Write};
 use std::path::Path;
 use std::process::ExitCode;
 
-use crate::compare::{Outcome, compare, write_cases};
+use crate::compare::{Outcome, compare, cover, write_cases};
 use crate::subject::Subject;
 
 /// Runs the command that the arguments name.
@@ -37,6 +37,7 @@ fn usage<S: Subject>() -> String {
     format!(
         "usage: {name} answer
        {name} generate SEED COUNT
+       {name} cover SEED COUNT
        {name} compare SEED COUNT PORT
        {name} sample SEED FOLDER"
     )
@@ -56,6 +57,10 @@ fn run<S: Subject>(arguments: &[&OsStr]) -> Result<ExitCode, String> {
                 output,
                 S::cases(number(seed)?).take(number(count)?),
             ))
+        }
+        (Some("cover"), [seed, count]) => {
+            let outcome = cover::<S>(number(seed)?, number(count)?);
+            print_outcome(&outcome).map_err(|error| error.to_string())
         }
         (Some("compare"), [seed, count, port]) => {
             let outcome = compare::<S>(number(seed)?, number(count)?, port);

@@ -64,6 +64,16 @@ pub fn compare_cases<S: Compared, I: Iterator<Item = S::Case>>(
     Ok(outcome)
 }
 
+/// What `count` cases reach, with no port to compare.
+pub fn cover<S: Subject>(seed: u64, count: usize) -> Outcome<S::Counts> {
+    let mut outcome = Outcome::<S::Counts>::default();
+    for case in S::cases(seed).take(count) {
+        outcome.counts.record(&case, &S::answer(&case));
+    }
+    outcome.failures = outcome.counts.missed_minimums();
+    outcome
+}
+
 /// Prints the cases, each on its lines.
 pub fn write_cases(mut output: impl Write, cases: impl Iterator<Item: Display>) -> io::Result<()> {
     for case in cases {

@@ -38,6 +38,18 @@ impl SplitMix64 {
         self.below(times) == 0
     }
 
+    /// A place of `weights`, as often as its weight says. They are not all 0.
+    pub fn weighted(&mut self, weights: &[usize]) -> usize {
+        let mut left = self.below(weights.iter().sum());
+        for (place, weight) in weights.iter().enumerate() {
+            if left < *weight {
+                return place;
+            }
+            left -= weight;
+        }
+        unreachable!("a number below the sum falls to one place")
+    }
+
     /// One of `choices`, which is not empty.
     pub fn pick<T: Copy>(&mut self, choices: &[T]) -> T {
         choices[self.below(choices.len())]
@@ -55,6 +67,19 @@ mod tests {
         assert_eq!(random.next_u64(), 6_457_827_717_110_365_317);
         assert_eq!(random.next_u64(), 3_203_168_211_198_807_973);
         assert_eq!(random.next_u64(), 9_817_491_932_198_370_423);
+    }
+
+    #[test]
+    fn a_weight_says_how_often() {
+        let mut random = SplitMix64::new(2);
+        let mut drawn = [0; 3];
+        for _ in 0..1_000 {
+            drawn[random.weighted(&[3, 0, 1])] += 1;
+        }
+        assert!(
+            drawn[0] > 700 && drawn[1] == 0 && drawn[2] > 200,
+            "{drawn:?}"
+        );
     }
 
     #[test]

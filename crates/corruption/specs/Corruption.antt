@@ -1,4 +1,4 @@
--- Section 3: corruption, each rule from a machine to the next machine and the effects handed out.
+-- Section 3: corruption, each rule from a machine to the next one and the effects of the step.
 use mathlib.Core.List.{List, [], _∷_}
 use Prim.Native.Nat.{ℕ, suc}
 use Rattle.model.specs.Vocabulary.{pick}
@@ -30,13 +30,18 @@ gateThen ch ps k c = after (gatesSay ch (c .statuses) ps) (k (statusesAre (gates
 abbrev pub recover : List Component → List Effect → ComponentId → Core → Out
 recover ch es i c = after es (enterRecovering ch i c)
 
+-- What the policy of the component at p means, the same for a corruption and for a recovery that is given up: Isolable gates
+-- it, Cascading gates it and all that depends on it, and k follows. Required gates nothing: r happens in its place.
+abbrev pub gateByPolicy : List Component → ℕ → (Core → Out) → (Core → Out) → Core → Out
+gateByPolicy ch p r k c = byPolicy (policyAt ch p)
+    (r c)
+    (gateThen ch (p ∷ []) k c)
+    (gateThen ch (cascade ch p) k c)
+
 -- The corruption rule for i; k is what follows where the state stays, es what comes before a recovery.
 abbrev pub corrupt : List Component → (Core → Out) → List Effect → ComponentId → Core → Out
 corrupt ch k es i c = pick (iso (statusAt (c .statuses) (position ch i))) (k c)
-    (byPolicy (policyAt ch (position ch i))
-    (recover ch es i c)
-    (gateThen ch (position ch i ∷ []) k c)
-    (gateThen ch (cascade ch (position ch i)) k c))
+    (gateByPolicy ch (position ch i) (recover ch es i) k c)
 
 -- In PreSupervision and AwaitingReady: off a component that is Isolated now.
 abbrev pub moveOn : List Component → Core → Out

@@ -1,3 +1,4 @@
 -- The definitions that the contracts cite.
 pub mod Corruption
 pub mod Cases
+pub mod Gates

@@ -9,6 +9,7 @@ ghost use Rattle.holds.specs.Acts.{gatingAll};
 ghost use Rattle.entry.specs.Premise.{Sane, Placed, DoesAll};
 ghost use Rattle.corruption.specs.Corruption.{corrupt, moveOn, recover};
 ghost use Rattle.corruption.specs.Cases.{follows, before};
+ghost use Rattle.corruption.specs.Gates.{GatesBy};
 use chain::Chain;
 use machine::Work;
 use model::ComponentId;
@@ -23,12 +24,47 @@ pub enum Situation {
 }
 
 // Gates the component at p and all that depends on it.
-pub fn cascade_hold(chain: Chain, w: Work, p: usize) -> Work
+fn cascade_hold(chain: Chain, w: Work, p: usize) -> Work
     requires { ⌜ (Sane chain w) × (p < size chain) ⌝ }
     ensures { λ r. ⌜ Does (size chain) w (gatingAll (entries chain) (cascade (entries chain) p)) r ⌝ }
 {
     let order = cascade::cascade_order(chain, p);
     holds::gate_all(chain, w, order)
+}
+
+// Whether a component was gated, and the machine after that.
+pub struct Gating {
+    pub gated: bool,
+    pub work: Work,
+}
+
+// What the policy of the component at p means. Corruption and exhausted recovery both ask here, so that they cannot differ;
+// where nothing was gated the caller says what happens.
+pub fn gate_by_policy(chain: Chain, w: Work, p: usize) -> Gating
+    requires { ⌜ (Sane chain w) × (p < size chain) ⌝ }
+    ensures { λ r. ⌜ GatesBy chain w p r ⌝ }
+{
+    let policy = chain.policy_at(p);
+    match policy {
+        FailurePolicy::Required => Gating {
+            gated: false,
+            work: w,
+        },
+        FailurePolicy::Isolable => {
+            let v = holds::gate_one(chain, w, p);
+            Gating {
+                gated: true,
+                work: v,
+            }
+        }
+        FailurePolicy::Cascading => {
+            let v = cascade_hold(chain, w, p);
+            Gating {
+                gated: true,
+                work: v,
+            }
+        }
+    }
 }
 
 // The walk leaves a component that was isolated under its cursor, so that a verdict still on its way releases nothing.
@@ -46,7 +82,7 @@ fn move_on(chain: Chain, w: Work) -> Work
     w
 }
 
-// What follows a corruption that leaves the state.
+// What follows a corruption after which the state stays.
 fn follow(chain: Chain, w: Work, situation: Situation) -> Work
     requires { ⌜ Sane chain w ⌝ }
     ensures { λ r. ⌜ Does (size chain) w (follows situation (entries chain)) r ⌝ }
@@ -103,16 +139,10 @@ pub fn handle_corruption(
     if machine::is_gated(rot, n, p) {
         return follow(chain, w, situation);
     }
-    let policy = chain.policy_at(p);
-    match policy {
-        FailurePolicy::Required => start_recovery(chain, w, id, p, situation),
-        FailurePolicy::Isolable => {
-            let v = holds::gate_one(chain, w, p);
-            follow(chain, v, situation)
-        }
-        FailurePolicy::Cascading => {
-            let v = cascade_hold(chain, w, p);
-            follow(chain, v, situation)
-        }
+    let g = gate_by_policy(chain, w, p);
+    let v = g.work;
+    if g.gated {
+        return follow(chain, v, situation);
     }
+    start_recovery(chain, v, id, p, situation)
 }

@@ -1,4 +1,4 @@
--- Section 3: boot timeouts and boot failures, each rule from a machine to the next machine and the effects handed out.
+-- Section 3: boot timeouts and boot failures, each rule from a machine to the next one and the effects of the step.
 use mathlib.Core.List.{List, [], _∷_}
 use Prim.Native.Nat.{ℕ}
 use Rattle.model.specs.Vocabulary.{pick}
@@ -12,6 +12,8 @@ use Rattle.model.specs.declared.Effect.the-variants.{ReportBootFailed}
 use Rattle.machine.specs.Status.{statusAt}
 use Rattle.machine.specs.View.{Core, Out, stay, after}
 use Rattle.corruption.specs.Corruption.{recover, corrupt}
+
+-- es, here and below, are the effects before a recovery. Today they are none in every state: Updating adds nothing here.
 
 -- Timeout, only when awaiting_boot.
 abbrev pub timeout : List Component → List Effect → ComponentId → Core → Out

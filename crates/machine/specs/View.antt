@@ -23,7 +23,7 @@ pub record Core : Type 0 where
   pub statuses : List ComponentStatus
   pub window : Bool
 
--- What one event makes of it, and the effects that it hands out.
+-- What one event makes of it, and the effects of that step, Emit among them. Emit is never handed out (section 4).
 pub record Out : Type 0 where
   pub core : Core
   pub said : List Effect

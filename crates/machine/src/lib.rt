@@ -1,6 +1,7 @@
 // The machine at work: what is kept of each component, and one part of it read or changed.
 ghost use mathlib.Core.Path.{_≡_};
 ghost use Prim.Native.Nat.{_≤_, _<_};
+ghost use Rattle.isolated.specs.Flags.{flags, flagsOf};
 ghost use Rattle.store.specs.Sink.{withEffect};
 ghost use Rattle.machine.specs.Status.{statusAt, iso};
 ghost use Rattle.machine.specs.View.{statusOf, statusesOf, stateIs, rotIs, sinkIs, openIs, newRot, Fit};
@@ -55,7 +56,7 @@ impl Rot {
 
     // The isolated positions as the C side reads them: position p is bit p mod 64, lowest first, of word p / 64.
     pub fn isolated_words(self) -> [u64; 4]
-        ensures { λ r. ⌜ r ≡ self .isolated .words ⌝ }
+        ensures { λ r. ⌜ (r ≡ self .isolated .words) × (flagsOf 64 r ≡ flags (self .isolated)) ⌝ }
     {
         let isolated = self.isolated;
         isolated.words

@@ -78,6 +78,14 @@ badFrom part n (r ∷ rs) = pick (isWrong (partAfter part r)) n (badFrom (partAf
 unfoldable pub badLine : List ℕ → ℕ
 badLine s = badFrom Opening 1 (rowsIn s)
 
+-- The rows before the first bad line: all of them, where there is none.
+unfoldable pub goodFrom : Part → List Row → List Row
+goodFrom part [] = []
+goodFrom part (r ∷ rs) = pick (isWrong (partAfter part r)) [] (r ∷ goodFrom (partAfter part r) rs)
+
+unfoldable pub goodIn : List ℕ → List Row
+goodIn s = goodFrom Opening (rowsIn s)
+
 -- max_retry: the number of the B line.
 abbrev pub retryAfter : ℕ → Row → ℕ
 retryAfter n (Retry k) = k
@@ -140,8 +148,8 @@ pub record Reads (s : List ℕ) (at : ℕ) (r : Next) : Type 0 where
   pub onward : at < r .after
   pub within : r .after ≤ length s
 
--- The first bad line, and where there is none, max_retry and the components; of more than 255 the first 255 are kept.
+-- The first bad line, and of the lines before it max_retry and the components; of more than 255 the first 255 are kept.
 pub record Whole (s : List ℕ) (r : Sheet) : Type 0 where
   pub bad : r .bad ≡ badLine s
-  pub retry : badLine s ≡ 0 → r .«max_retry» ≡ retryIn s
-  pub list : badLine s ≡ 0 → r .list ≡ pushedAll noEntries (cardsIn s)
+  pub retry : r .«max_retry» ≡ retryFrom 0 (goodIn s)
+  pub list : r .list ≡ pushedAll noEntries (cardsOf (goodIn s))

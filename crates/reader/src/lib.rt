@@ -22,7 +22,7 @@ pub struct Next {
     pub after: usize,
 }
 
-// The first bad line from 1, or 0; and if 0, what the B line and the C lines say.
+// The first bad line from 1, or 0; and what the B line and the C lines before it say.
 pub struct Sheet {
     pub bad: usize,
     pub max_retry: u8,

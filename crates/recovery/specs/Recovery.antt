@@ -1,4 +1,4 @@
--- Section 3: recovery, each rule from a machine to the next machine and the effects handed out.
+-- Section 3: recovery, each rule from a machine to the next one and the effects of the step.
 use mathlib.Core.List.{List, [], _∷_}
 use Prim.Native.Nat.{ℕ}
 use lib.Dec.{ltb}
@@ -8,12 +8,10 @@ use Rattle.model.specs.declared.ComponentId.{ComponentId}
 use Rattle.model.specs.declared.Component.{Component}
 use Rattle.model.specs.declared.Event.the-variants.{RecoveryFailed}
 use Rattle.model.specs.declared.Effect.the-variants.{ReportRecoveryFailed, Emit}
-use Rattle.chain.specs.Links.{policyAt}
-use Rattle.cascade.specs.Cascade.{cascade}
 use Rattle.machine.specs.Status.{statusAt, touch, retryIs, bump}
 use Rattle.machine.specs.View.{Core, Out, out, stay, statusesAre}
 use Rattle.entry.specs.Entry.{enterWalk}
-use Rattle.corruption.specs.Corruption.{byPolicy, gateThen}
+use Rattle.corruption.specs.Corruption.{gateByPolicy}
 
 -- The retry count of i is n.
 abbrev pub retryAt : List Component → ComponentId → ℕ → Core → Core
@@ -23,12 +21,14 @@ retryAt ch i n c = statusesAre (touch (retryIs n) (c .statuses) (position ch i))
 abbrev pub startOver : List Component → ComponentId → Core → Out
 startOver ch i c = enterWalk ch (retryAt ch i 0 c)
 
--- Exhaustion: Cascading cascades, Isolable gates, retry 0, PreSupervision. Required reports, and the state is kept.
+-- A Required component that is not restored: the report, then the event that is to lock, and the state is kept.
+abbrev pub giveUp : ComponentId → Core → Out
+giveUp i c = out c (ReportRecoveryFailed i ∷ Emit RecoveryFailed ∷ [])
+
+-- Exhaustion: Cascading cascades, Isolable gates, retry 0, PreSupervision. Required: ReportRecoveryFailed, then
+-- Emit(RecoveryFailed), state kept.
 abbrev pub exhausted : List Component → ComponentId → Core → Out
-exhausted ch i c = byPolicy (policyAt ch (position ch i))
-    (out c (ReportRecoveryFailed i ∷ Emit RecoveryFailed ∷ []))
-    (gateThen ch (position ch i ∷ []) (startOver ch i) c)
-    (gateThen ch (cascade ch (position ch i)) (startOver ch i) c)
+exhausted ch i c = gateByPolicy ch (position ch i) (giveUp i) (startOver ch i) c
 
 -- Restored in Recovering(f), only for f: one retry more; below max_retry PreSupervision, else exhaustion.
 abbrev pub restored : List Component → ℕ → ComponentId → ComponentId → Core → Out

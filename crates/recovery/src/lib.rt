@@ -13,7 +13,6 @@ use machine::Work;
 use model::ComponentId;
 use model::Effect;
 use model::Event;
-use model::FailurePolicy;
 use model::OptionId;
 use model::State;
 use store::Status;
@@ -56,26 +55,19 @@ fn start_over(chain: Chain, w: Work, id: ComponentId, p: usize) -> Work
     entry::enter_walk(chain, v)
 }
 
-// Recovery is over without success: a component that can be isolated is, and the rest boots; a Required one locks.
+// Recovery is over without success: a component that can be isolated is, and the rest boots. A Required one is reported and
+// RecoveryFailed is emitted, which locks once it is settled; until then the state is kept.
 fn exhaust_recovery(chain: Chain, w: Work, id: ComponentId, p: usize) -> Work
     requires { ⌜ Placed chain w id p ⌝ }
     ensures { λ r. ⌜ Does (size chain) w (exhausted (entries chain) id) r ⌝ }
 {
-    let policy = chain.policy_at(p);
-    match policy {
-        FailurePolicy::Required => {
-            let v = machine::say(w, Effect::ReportRecoveryFailed(id));
-            machine::say(v, Effect::Emit(Event::RecoveryFailed))
-        }
-        FailurePolicy::Isolable => {
-            let v = holds::gate_one(chain, w, p);
-            start_over(chain, v, id, p)
-        }
-        FailurePolicy::Cascading => {
-            let v = corruption::cascade_hold(chain, w, p);
-            start_over(chain, v, id, p)
-        }
+    let g = corruption::gate_by_policy(chain, w, p);
+    let v = g.work;
+    if g.gated {
+        return start_over(chain, v, id, p);
     }
+    let u = machine::say(v, Effect::ReportRecoveryFailed(id));
+    machine::say(u, Effect::Emit(Event::RecoveryFailed))
 }
 
 // One retry more; the count stops at 255.

@@ -10,8 +10,9 @@ use Rattle.chain.specs.declared.Chain.{Chain}
 use Rattle.chain.specs.Tables.{entries}
 use Rattle.store.specs.Sink.{effectOf, held}
 use Rattle.settling.specs.declared.Machine.{Machine}
-use Rattle.settling.specs.declared.Waiting.the-variants.{Nothing}
-use Rattle.settling.specs.Settle.{Model, Run, turnOf, turned, turns, settle}
+use Rattle.settling.specs.declared.Waiting.{Waiting}
+use Rattle.settling.specs.declared.Waiting.the-variants.{Nothing, Handed}
+use Rattle.settling.specs.Settle.{Model, Run, turnBy, turnOf, turned, turns, settle}
 use Rattle.settling.specs.View.{view, chainOf, Whole, Becomes}
 use Rattle.settling.specs.Parts.{Rested}
 use Rattle.settling.proofs.Ends.{turns-next, settle-turns}
@@ -51,14 +52,26 @@ left-few : (m : Machine) → Whole m → length (view m .left) ≤ 512
 unfolding view held
 left-few m w = omega (arith, w .room, length-drop (m .next) (held (m .batch)), length-map (take (m .batch .len) (m .batch .effects)) effectOf, length-take (m .batch .len) (m .batch .effects))
 
-pub turned-enough : (m : Machine) → Whole m → m .waiting ≡ Nothing → turning m 521 ≡ settle (chainOf m) (m .«max_retry») (view m) .machine
-turned-enough m w h = ap (λ (r : Run). r .machine) (settle-turns (chainOf m) (m .«max_retry») (view m) (view-waiting m ∙ h) (view-few m w) 521 (omega (arith, left-few m w)))
+-- While an effect waits, no number of turns changes anything.
+enough-by : (m : Machine) → Whole m → (w : Waiting) → m .waiting ≡ w → turning m 521 ≡ settle (chainOf m) (m .«max_retry») (view m) .machine
+unfolding settle
+enough-by m w Nothing h = ap (λ (r : Run). r .machine) (settle-turns (chainOf m) (m .«max_retry») (view m) (view-waiting m ∙ h) (view-few m w) 521 (omega (arith, left-few m w)))
+enough-by m w (Handed x) h =
+    let ch = chainOf m in
+    let max = m .«max_retry» in
+    let v = view m in
+    let start : Run = record { machine = v; settled = [] } in
+    let still : turnOf ch max v ≡ v = ap (λ (u : Waiting). turnBy ch max v u (v .left) (v .queue)) (view-waiting m ∙ h) in
+    fixed ch max 521 start still ∙ sym (fixed ch max (length (v .left) + 9) start still)
 
-pub turned-rested : (m v : Machine) (n : ℕ) → Whole m → m .waiting ≡ Nothing → n ≤ 521 → Becomes m (turning m n) v → Rested v → Becomes m (settle (chainOf m) (m .«max_retry») (view m) .machine) v
-turned-rested m v n w h l b s =
+pub turned-enough : (m : Machine) → Whole m → turning m 521 ≡ settle (chainOf m) (m .«max_retry») (view m) .machine
+turned-enough m w = enough-by m w (m .waiting) refl
+
+pub turned-rested : (m v : Machine) (n : ℕ) → Whole m → n ≤ 521 → Becomes m (turning m n) v → Rested v → Becomes m (settle (chainOf m) (m .«max_retry») (view m) .machine) v
+turned-rested m v n w l b s =
     let still : turnOf (chainOf m) (m .«max_retry») (turning m n) ≡ turning m n = (λ j. turnOf (entries (sym (b .chain) j)) (sym (b .maxRetry) j) (sym (b .machine) j)) ∙ s ∙ b .machine in
     record {
-      machine = b .machine ∙ sym (fixed-from (chainOf m) (m .«max_retry») n 521 record { machine = view m; settled = [] } still l) ∙ turned-enough m w h;
+      machine = b .machine ∙ sym (fixed-from (chainOf m) (m .«max_retry») n 521 record { machine = view m; settled = [] } still l) ∙ turned-enough m w;
       chain = b .chain;
       maxRetry = b .maxRetry;
       whole = b .whole;

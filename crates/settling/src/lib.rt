@@ -245,9 +245,10 @@ fn at_rest(m: Machine) -> bool
     }
 }
 
-// Turns up to the next effect or the end. There are at most 512 effects left, 8 events queued, and one turn more.
+// Turns up to the next effect or the end; none while an effect waits. There are at most 512 effects left, 8 events queued,
+// and one turn more.
 pub fn settle(m: Machine) -> Machine
-    requires { ⌜ (Whole m) × (m .waiting ≡ Waiting.Nothing) ⌝ }
+    requires { ⌜ Whole m ⌝ }
     ensures { λ r. ⌜ Becomes m (settle (chainOf m) (m .«max_retry») (view m) .machine) r ⌝ }
 {
     let mut v = m;

@@ -23,6 +23,7 @@ use Rattle.sm.specs.Gives.{Fresh}
 use Rattle.reader.specs.declared.Sheet.{Sheet}
 use Rattle.reader.specs.Read.{rowsIn, badLine, retryIn, cardsIn, pushedAll, Whole}
 use Rattle.reader.proofs.Kept.{kept-cards, kept-verdict}
+use Rattle.reader.proofs.Left.{retry-whole, list-whole}
 use Rattle.driver.specs.declared.End.{End}
 use Rattle.driver.specs.Run.{Entry, Setting, Point, Progress, transcript, startPoint, runFrom}
 use Rattle.driver.specs.Seen.{runOn, Ran}
@@ -74,7 +75,7 @@ module _ (s : List ℕ) where
       good-line = sym (w .bad) ∙ good
 
       listed : r .list ≡ pushedAll noEntries (cardsIn s)
-      listed = w .list good-line
+      listed = list-whole s r w good-line
 
       pub verdict-here : verdictOf (r .list .len) (entriesOf (r .list)) ≡ verdictIn s
       verdict-here = ap (λ (l : ComponentList). verdictOf (l .len) (entriesOf l)) listed ∙ kept-verdict (cardsIn s)
@@ -110,7 +111,7 @@ module _ (s : List ℕ) where
       unfolding progressOf startPoint
       progress-here room limit m f =
           let chain = f .chain ∙ chain-here in
-          let retry = f .maxRetry ∙ w .retry good-line in
+          let retry = f .maxRetry ∙ retry-whole s r w good-line in
           let machine = f .machine ∙ ap startOf chain-here in
           λ j. runFrom (record { chain = chain j; maxRetry = retry j; limit = limit }) room record { machine = machine j; rows = rowsIn s; line = 1; work = 0; settled = 0; told = 0; going = true; number = 0; place = 0 }
 

@@ -204,8 +204,7 @@ pub fn isolated_words(m: Machine) -> [u64; 4]
     ensures { λ r. ⌜ (r ≡ m .rot .isolated .words) × (Valid m → flagsOf 64 r ≡ isolation m) ⌝ }
 {
     let kept = m.rot;
-    let isolated = kept.isolated;
-    isolated.words
+    kept.isolated_words()
 }
 
 // How many components are isolated.

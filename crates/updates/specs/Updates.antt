@@ -1,4 +1,4 @@
--- Section 3: power, attestation and updates, each rule from a machine to the next machine and the effects handed out.
+-- Section 3: power, attestation and updates, each rule from a machine to the next one and the effects of the step.
 use mathlib.Core.Bool.{true, false}
 use mathlib.Core.List.{List, [], _∷_}
 use Rattle.model.specs.Vocabulary.{pick}

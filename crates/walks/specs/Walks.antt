@@ -1,4 +1,4 @@
--- Section 3: verdicts on firmware and boot progress, each rule from a machine to the next machine and the effects handed out.
+-- Section 3: verdicts on firmware and boot progress, each rule from a machine to the next one and the effects of the step.
 use mathlib.Core.List.{List, [], _∷_}
 use Prim.Native.Nat.{suc}
 use lib.Dec.{eqb, ltb}
@@ -30,7 +30,8 @@ releasedIn Updating k i = Updating
 releasedIn (Recovering f) k i = Recovering f
 releasedIn Locked k i = Locked
 
--- VerificationPassed: only for the cursor's component.
+-- VerificationPassed: only for the cursor's component. An id outside the chain has the length for its position, where the
+-- cursor may stand too: it is turned away before (rot:Step.inChain).
 abbrev pub pass : List Component → ComponentId → Core → Out
 pass ch i c = pick (eqb (position ch i) (c .cursor))
     (after (ReleaseReset i ∷ []) (onward ch (suc (position ch i)) (releasedIn (c .state) (kindAt ch (position ch i)) i) (statusesAre (touch lift (c .statuses) (position ch i)) c)))

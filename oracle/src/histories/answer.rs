@@ -12,8 +12,14 @@ use crate::steps::{Case, Machine};
 
 /// The answers to a history.
 pub fn answer(history: &History) -> Answers {
+    answer_noting(history, true)
+}
+
+/// The answers to a history, with its corners or without those of its machine.
+pub fn answer_noting(history: &History, noting: bool) -> Answers {
     let mut run = Run {
         rest: &history.calls,
+        noting,
         answers: Vec::new(),
         corners: Vec::new(),
     };
@@ -28,12 +34,15 @@ pub fn answer(history: &History) -> Answers {
             },
         }
     }
+    let mut events = 0;
     if let Some(machine) = at_hand {
+        events = machine.stepwise.events();
         run.corners.extend(machine.stepwise.into_corners());
     }
     Answers {
         answers: run.answers,
         corners: run.corners,
+        events,
     }
 }
 
@@ -48,6 +57,7 @@ struct AtHand {
 /// The calls that are not answered yet, and the answers so far.
 struct Run<'a> {
     rest: &'a [Call],
+    noting: bool,
     answers: Vec<Answer>,
     corners: Vec<String>,
 }
@@ -91,11 +101,16 @@ impl<'a> Run<'a> {
         }
         self.mark("new_accepted");
         let new = || Rust::new(chain(&list.entries).expect("an accepted chain"), max_retry);
+        let stepwise = Stepwise::new(new(), max_retry, list.entries.clone());
         Some(AtHand {
             entries: list.entries.clone(),
             max_retry,
             rust: new(),
-            stepwise: Stepwise::new(new(), &list.entries),
+            stepwise: if self.noting {
+                stepwise
+            } else {
+                stepwise.silent()
+            },
         })
     }
 

@@ -3,10 +3,11 @@
 
 use openprot_orchestrator_sm::{ComponentId, Effect, Event, State};
 
-use crate::lists::LONGEST;
-use crate::steps::Machine;
+use super::unreached::{UNREACHED, is_unreached};
+use crate::lists::{Entry, LONGEST};
 use crate::steps::numbers::{EVENTS, STATES, effect_fields, event_fields, state_parts};
 use crate::steps::rules::{NAMING, RULES};
+use crate::steps::{Answer, Case, Machine, rows};
 
 /// The effects that are handed out: all but Emit.
 const HANDED: usize = 17;
@@ -60,7 +61,7 @@ const NAMED: [&str; 40] = [
 
 /// No history reaches these; docs/TESTING.md says why. A history that does is
 /// a failure of the comparison.
-pub const NEVER: [&str; 6] = [
+const NEVER: [&str; 6] = [
     "lost_after_a_failure",
     "second_failure_with_effects_left",
     "third_failure",
@@ -97,6 +98,26 @@ pub fn names() -> Vec<String> {
     names
 }
 
+/// The corners that one history in many reaches: a retry of 255 that stays, a
+/// failure at each effect, and the rows of `steps` that histories reach at all.
+pub fn rare_names() -> Vec<String> {
+    let mut names = vec![RETRY_STOPS.to_string()];
+    names.extend((0..HANDED).map(|number| format!("failed_at_{number}")));
+    let rows = rows::names().into_iter();
+    names.extend(
+        rows.filter(|name| !is_unreached(name))
+            .map(|name| row(&name)),
+    );
+    names
+}
+
+/// The corners that no history reaches.
+pub fn never_names() -> Vec<String> {
+    let rows = UNREACHED.iter().flat_map(|(_, rows)| rows.iter());
+    let never = NEVER.iter().map(|name| name.to_string());
+    never.chain(rows.map(|name| row(name))).collect()
+}
+
 /// Where a queued event came from.
 #[derive(Clone, Copy, PartialEq, Eq, Debug)]
 pub enum Origin {
@@ -113,11 +134,13 @@ pub fn number_of(event: &Event) -> u16 {
 }
 
 /// An event that is begun in this state, on a chain with these ids.
-pub fn begun(event: &Event, state: State, ids: &[ComponentId]) -> Vec<String> {
+pub fn begun(event: &Event, state: State, entries: &[Entry]) -> Vec<String> {
     let [number, id, ..] = event_fields(event);
     let name = usize::from(number);
     let rules = RULES[usize::from(state_parts(state).0)];
-    let inside = ids.iter().any(|present| u16::from(present.get()) == id);
+    let inside = entries
+        .iter()
+        .any(|(present, _)| u16::from(present.get()) == id);
     let kind = if !rules.contains(&name) {
         "begun_without_a_rule"
     } else if NAMING.contains(&name) && !inside {
@@ -132,27 +155,46 @@ pub fn handed(effect: &Effect) -> String {
     format!("handed_{}", effect_fields(effect)[0])
 }
 
+/// The reply to this effect is that it failed.
+pub fn failed_at(effect: &Effect) -> String {
+    format!("failed_at_{}", effect_fields(effect)[0])
+}
+
 /// One event that was taken from the queue and stepped.
 pub struct Taken<'a> {
-    pub event: Event,
+    pub case: &'a Case,
+    pub answer: &'a Answer,
     pub origin: Origin,
-    pub before: &'a Machine,
-    pub after: &'a Machine,
-    pub effects: &'a [Effect],
+}
+
+impl Taken<'_> {
+    fn before(&self) -> &Machine {
+        &self.case.machine
+    }
+
+    fn after(&self) -> &Machine {
+        &self.answer.machine
+    }
+}
+
+/// The name of a row of `steps` among the corners.
+pub fn row(name: &str) -> String {
+    format!("step_{name}")
 }
 
 pub fn taken(taken: &Taken) -> Vec<String> {
-    let mut names: Vec<&str> = Vec::new();
-    names.extend(by_origin(taken));
-    if taken.before.state == State::Locked && taken.origin != Origin::Begun {
-        names.push("drained_in_locked");
+    let rows = rows::reached(taken.case, taken.answer);
+    let mut names: Vec<String> = rows.iter().map(|name| row(name)).collect();
+    names.extend(by_origin(taken).map(String::from));
+    if taken.before().state == State::Locked && taken.origin != Origin::Begun {
+        names.push("drained_in_locked".into());
     }
-    names.extend(set_up_corners(taken));
-    names.into_iter().map(String::from).collect()
+    names.extend(set_up_corners(taken).into_iter().map(String::from));
+    names
 }
 
 fn by_origin(taken: &Taken) -> Option<&'static str> {
-    let locks = taken.before.state != State::Locked && taken.after.state == State::Locked;
+    let locks = taken.before().state != State::Locked && taken.after().state == State::Locked;
     match taken.origin {
         Origin::Begun => None,
         Origin::Latched if locks => Some("effect_failed_locks"),
@@ -165,11 +207,11 @@ fn by_origin(taken: &Taken) -> Option<&'static str> {
 
 /// A report that an effect asks for, fed back and settled by a rule.
 fn fed_back(taken: &Taken, effect: Effect) -> Option<&'static str> {
-    let settled = taken.before != taken.after || !taken.effects.is_empty();
+    let settled = taken.before() != taken.after() || !taken.answer.effects.is_empty();
     if !settled {
         return None;
     }
-    match (effect, taken.event) {
+    match (effect, taken.case.event) {
         (Effect::VerifyFirmware(id), Event::VerificationPassed(of)) if id == of => {
             Some("verdict_fed_back_and_passed")
         }
@@ -193,7 +235,7 @@ fn fed_back(taken: &Taken, effect: Effect) -> Option<&'static str> {
 }
 
 fn set_up_corners(taken: &Taken) -> Vec<&'static str> {
-    let before = taken.before;
+    let before = taken.before();
     let at_cursor = before.statuses.get(usize::from(before.cursor));
     let walking = matches!(
         before.state,
@@ -214,19 +256,20 @@ fn set_up_corners(taken: &Taken) -> Vec<&'static str> {
 }
 
 fn becomes_ready(taken: &Taken) -> bool {
-    matches!(taken.event, Event::ComponentReady(_))
-        && matches!(taken.before.state, State::AwaitingReady(_))
-        && taken.after.state == State::Ready
+    matches!(taken.case.event, Event::ComponentReady(_))
+        && matches!(taken.before().state, State::AwaitingReady(_))
+        && taken.after().state == State::Ready
 }
 
 /// A Required component is restored and reported, and its retry does not
 /// change: it is 255.
 fn retry_stops(taken: &Taken) -> bool {
-    let restored = |failed: ComponentId| taken.event == Event::Restored(failed);
-    let emits = taken.effects.contains(&Effect::Emit(Event::RecoveryFailed));
-    matches!(taken.before.state, State::Recovering(failed) if restored(failed))
+    let restored = |failed: ComponentId| taken.case.event == Event::Restored(failed);
+    let effects = &taken.answer.effects;
+    let emits = effects.contains(&Effect::Emit(Event::RecoveryFailed));
+    matches!(taken.before().state, State::Recovering(failed) if restored(failed))
         && emits
-        && taken.before.statuses == taken.after.statuses
+        && taken.before().statuses == taken.after().statuses
 }
 
 /// A call that settled this many events.

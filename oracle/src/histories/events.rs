@@ -50,20 +50,23 @@ pub fn apt_event(random: &mut SplitMix64, entries: &[Entry], machine: &Machine) 
         (State::Ready, 0..=3, _) => Some(Event::UpdateRequest),
         (State::Ready, 4, _) => Some(Event::BootConfirmed(any)),
         (State::Ready, 5, _) => Some(Event::AttestationChallenge),
-        (State::Ready, 6, _) => {
-            let checkpoint = draw_checkpoint(random);
-            let id = booting.unwrap_or(any);
-            Some(named_event(BOOT_FAILED, id, checkpoint, DEVICE_FATAL))
-        }
+        (State::Ready, 6, _) => Some(fatal(random, booting.unwrap_or(any))),
         (State::Updating, 0 | 1, _) => Some(Event::UpdateVerified),
         (State::Updating, 2 | 3, _) => Some(Event::UpdateRejected),
-        (State::Updating, 4..=7, _) => Some(Event::CorruptionDetected(required.unwrap_or(any))),
-        (State::Updating, 8 | 9, _) => Some(Event::UpdateRequest),
+        (State::Updating, 4 | 5, _) => Some(Event::CorruptionDetected(required.unwrap_or(any))),
+        (State::Updating, 6 | 7, _) => Some(Event::UpdateRequest),
+        (State::Updating, 8, _) => Some(fatal(random, booting.unwrap_or(any))),
         (State::Recovering(id), 0..=3, _) => Some(Event::Restored(id)),
         (State::Recovering(id), 4, _) => Some(Event::RecoveryUnavailable(id)),
         _ => None,
     };
     led.unwrap_or_else(|| draw_event(random, entries, machine))
+}
+
+/// A boot failure that asks for the component's policy.
+pub fn fatal(random: &mut SplitMix64, id: ComponentId) -> Event {
+    let checkpoint = draw_checkpoint(random);
+    named_event(BOOT_FAILED, id, checkpoint, DEVICE_FATAL)
 }
 
 /// An event that the state has a rule for, about an id outside the chain.

@@ -1,13 +1,14 @@
-//! Generated histories. Each scene serves one part of the comparison; the
-//! weights keep most histories short and still reach every corner often enough.
+//! Generated histories, drawn by profile: each profile serves one part of the
+//! comparison. The weights keep most histories short and still reach every
+//! corner often enough. Sheets are made from the same histories.
 
 use openprot_orchestrator_sm::{ComponentId, State};
 
 use super::History;
 use super::scenes::{
-    cascade_flood, drained, exhausted_under_flood, in_service, large, refused_list,
-    set_up_machines, without_machine,
+    failed_effect, full_queue, in_service, large, refused_list, set_up_machines, without_machine,
 };
+use super::storms::{deep_line, recovery_storm, restored_255_times, wide_fan};
 use super::writer::{MOODS, Mood, Writer};
 use crate::lists::Entry;
 use crate::lists::generate::accepted;
@@ -18,6 +19,38 @@ use crate::steps::generate::draw_max_retry;
 const CALLS: usize = 120;
 const AFTER_LOCKED: usize = 3;
 
+/// What histories are drawn for: a name, how often, and how one is drawn.
+pub struct Profile {
+    pub name: &'static str,
+    weight: usize,
+    draw: fn(&mut SplitMix64) -> History,
+}
+
+const fn profile(
+    name: &'static str,
+    weight: usize,
+    draw: fn(&mut SplitMix64) -> History,
+) -> Profile {
+    Profile { name, weight, draw }
+}
+
+/// The machines that no history leads to; no sheet can set one up.
+pub const SET_UP_MACHINES: &str = "set_up_machines";
+
+pub const PROFILES: [Profile; 11] = [
+    profile("small_chains", 150, usual),
+    profile("chains_of_255", 1, large),
+    profile("deep_lines", 15, deep_line),
+    profile("wide_fans", 15, wide_fan),
+    profile("recovery_storms", 120, recovery_storm),
+    profile("restores_up_to_255", 1, restored_255_times),
+    profile("update_churn", 140, in_service),
+    profile("full_queues", 400, full_queue),
+    profile("failed_effects", 90, failed_effect),
+    profile("refused_lists", 50, refused_list),
+    profile(SET_UP_MACHINES, 50, set_up_machines),
+];
+
 /// Endless histories for a seed. The same seed gives the same histories. The
 /// first one has no machine; every other one begins with its own.
 pub fn histories(seed: u64) -> impl Iterator<Item = History> {
@@ -27,15 +60,10 @@ pub fn histories(seed: u64) -> impl Iterator<Item = History> {
 }
 
 fn draw_history(random: &mut SplitMix64) -> History {
-    match random.below(1_000) {
-        0 => large(random),
-        1..=60 => set_up_machines(random),
-        61..=150 => refused_list(random),
-        151..=350 => exhausted_under_flood(random),
-        351..=490 => cascade_flood(random),
-        491..=720 => drained(random),
-        721..=840 => in_service(random),
-        _ => usual(random),
+    let Profile { name, draw, .. } = PROFILES[random.weighted(&PROFILES.map(|p| p.weight))];
+    History {
+        profile: name,
+        ..draw(random)
     }
 }
 
@@ -81,7 +109,7 @@ fn turn(writer: &mut Writer) {
 }
 
 /// Most dispatches go well, so that a history gets somewhere.
-fn draw_mood(random: &mut SplitMix64) -> Mood {
+pub fn draw_mood(random: &mut SplitMix64) -> Mood {
     match random.below(12) {
         0..=4 => Mood::Calm,
         5..=8 => Mood::Reporting,
@@ -112,7 +140,8 @@ mod tests {
     #[test]
     fn generated_histories_read_back() {
         for history in histories(3).take(500) {
-            assert_eq!(parse(&history.to_string()), Ok(history));
+            let read = parse(&history.to_string()).unwrap();
+            assert_eq!(read.calls, history.calls);
         }
     }
 

@@ -139,7 +139,7 @@ pub fn parse(text: &str) -> Result<History, String> {
         }
         calls.push(call);
     }
-    Ok(History { calls })
+    Ok(History::new(calls))
 }
 
 fn accepted_entries(list: &List) -> Option<Vec<Entry>> {

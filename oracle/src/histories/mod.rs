@@ -10,6 +10,8 @@ pub mod line;
 pub mod sample;
 pub mod scenes;
 pub mod stepwise;
+pub mod storms;
+pub mod unreached;
 pub mod writer;
 
 use openprot_orchestrator_sm::{Effect, EffectError, Event};
@@ -56,6 +58,20 @@ pub enum Call {
 #[derive(Clone, PartialEq, Eq, Debug)]
 pub struct History {
     pub calls: Vec<Call>,
+    /// The profile that it was drawn for, or `NO_PROFILE`.
+    pub profile: &'static str,
+}
+
+/// Of a history that was written by hand or read from lines.
+pub const NO_PROFILE: &str = "none";
+
+impl History {
+    pub fn new(calls: Vec<Call>) -> Self {
+        Self {
+            calls,
+            profile: NO_PROFILE,
+        }
+    }
 }
 
 /// What `begin` and `reply` give, and the machine that they leave.
@@ -82,6 +98,8 @@ pub enum Answer {
 pub struct Answers {
     pub answers: Vec<Answer>,
     pub corners: Vec<String>,
+    /// The events that were settled.
+    pub events: u64,
 }
 
 /// Histories, as a subject of comparison.

@@ -48,7 +48,7 @@ fn before_any_machine(seed: u64) -> History {
     let steps = steps_sample::sample(seed);
     let mut calls: Vec<Call> = steps.into_iter().map(Call::Step).collect();
     calls.push(Call::Begin(Event::EffectFailed));
-    History { calls }
+    History::new(calls)
 }
 
 /// A history in the middle of the lines begins with a machine of its own.

@@ -2,7 +2,7 @@
 
 use openprot_orchestrator_sm::{ComponentId, Event, FailurePolicy, State};
 
-use super::events::inapt_event;
+use super::events::{fatal, inapt_event};
 use super::generate::ids;
 use super::stepwise::QUEUE;
 use super::writer::{MOODS, Mood, Writer};
@@ -12,11 +12,7 @@ use crate::lists::generate::{accepted, lists};
 use crate::lists::{Entry, LONGEST};
 use crate::random::SplitMix64;
 use crate::steps::Machine;
-use crate::steps::generate::{
-    DEVICE_FATAL, draw_checkpoint, draw_event, draw_machine, draw_max_retry, draw_statuses,
-    named_event,
-};
-use crate::steps::rules::BOOT_FAILED;
+use crate::steps::generate::{draw_event, draw_machine, draw_max_retry, draw_statuses};
 
 /// Calls before any machine is made, and single steps.
 pub fn without_machine(random: &mut SplitMix64) -> History {
@@ -38,7 +34,7 @@ pub fn refused_list(random: &mut SplitMix64) -> History {
     for _ in 0..random.between(1, 3) {
         calls.push(random.pick(&CALLS_ON_NONE).into());
     }
-    History { calls }
+    History::new(calls)
 }
 
 /// Calls that need a machine.
@@ -81,9 +77,16 @@ fn beside_a_cascade(random: &mut SplitMix64) -> Vec<Entry> {
     entries
 }
 
+/// Replies that fill the queue, up to 8 and beyond.
+pub fn full_queue(random: &mut SplitMix64) -> History {
+    let scenes = [exhausted_under_flood, cascade_flood, drained];
+    let scene = scenes[random.weighted(&[190, 120, 210])];
+    scene(random)
+}
+
 /// The replies fill the queue while a Required component is exhausted, so that
 /// the event that Emit queues finds 8, or one less.
-pub fn exhausted_under_flood(random: &mut SplitMix64) -> History {
+fn exhausted_under_flood(random: &mut SplitMix64) -> History {
     let entries = beside_a_cascade(random);
     let (required, root) = (entries[0].0, entries[1].0);
     let max_retry = random.below(4) as u8;
@@ -146,7 +149,7 @@ fn after(writer: &mut Writer) {
 }
 
 /// A cascade whose replies fill the queue, and what follows.
-pub fn cascade_flood(random: &mut SplitMix64) -> History {
+fn cascade_flood(random: &mut SplitMix64) -> History {
     let entries = beside_a_cascade(random);
     let root = entries[1].0;
     let max_retry = draw_max_retry(random);
@@ -164,7 +167,7 @@ pub fn cascade_flood(random: &mut SplitMix64) -> History {
 
 /// A cascade whose replies queue a few events, which one call then settles: in
 /// Locked after a failure, or because the state has no rule for them.
-pub fn drained(random: &mut SplitMix64) -> History {
+fn drained(random: &mut SplitMix64) -> History {
     let entries = beside_a_cascade(random);
     let root = entries[1].0;
     let max_retry = draw_max_retry(random);
@@ -190,7 +193,7 @@ pub fn drained(random: &mut SplitMix64) -> History {
 }
 
 /// A chain of at most `most` components, the first of them Required.
-fn led_by_required(random: &mut SplitMix64, most: usize) -> Vec<Entry> {
+pub fn led_by_required(random: &mut SplitMix64, most: usize) -> Vec<Entry> {
     let length = random.between(1, most);
     let mut entries = accepted(random, length);
     entries[0].1.failure_policy = FailurePolicy::Required;
@@ -224,8 +227,33 @@ pub fn in_service(random: &mut SplitMix64) -> History {
     writer.finish()
 }
 
+/// A failure at any one effect of a dispatch, those before it done. Where the
+/// chain is in service first, the effects of updates come too.
+pub fn failed_effect(random: &mut SplitMix64) -> History {
+    let entries = led_by_required(random, 5);
+    let max_retry = draw_max_retry(random);
+    let mut writer = Writer::new(random, entries, max_retry);
+    writer.power_good();
+    let served = writer.random.one_in(2);
+    while served && release_next(&mut writer) {}
+    for _ in 0..writer.random.below(8) {
+        let event = writer.apt_event();
+        writer.dispatch(event, Mood::Calm);
+    }
+    let event = writer.apt_event();
+    writer.begin(event);
+    for _ in 0..writer.random.below(5) {
+        if writer.machine.waiting().is_some() {
+            writer.reply(Reply::Done);
+        }
+    }
+    writer.reply(Reply::Failed);
+    after(&mut writer);
+    writer.finish()
+}
+
 /// The component that the walk is at passes, if it is at one.
-fn release_next(writer: &mut Writer) -> bool {
+pub fn release_next(writer: &mut Writer) -> bool {
     let Some(id) = writer.at_cursor() else {
         return false;
     };
@@ -247,8 +275,8 @@ pub fn large(random: &mut SplitMix64) -> History {
     let mut writer = Writer::new(random, entries, max_retry);
     writer.power_good();
     while release_next(&mut writer) {}
-    let checkpoint = draw_checkpoint(writer.random);
-    writer.begin(named_event(BOOT_FAILED, first, checkpoint, DEVICE_FATAL));
+    let event = fatal(writer.random, first);
+    writer.begin(event);
     // Most of the batch is done; the rest in another mood.
     let done = writer.random.between(400, 511);
     for _ in 0..done {

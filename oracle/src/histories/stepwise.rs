@@ -6,13 +6,15 @@
 
 use std::collections::VecDeque;
 
-use openprot_orchestrator_sm::{ComponentId, Effect, Event, State};
+use openprot_orchestrator_sm::{Effect, Event, State};
 
 use super::Reply;
-use super::corners::{Origin, SET_UP, Taken, begun, call_settled, ended, handed, number_of, taken};
+use super::corners::{
+    Origin, SET_UP, Taken, begun, call_settled, ended, failed_at, handed, number_of, taken,
+};
 use crate::lists::Entry;
-use crate::steps::Machine;
 use crate::steps::answer::{Rust, read};
+use crate::steps::{Answer, Case, Machine};
 
 /// The events that the Rust's queue holds.
 pub const QUEUE: usize = 8;
@@ -22,47 +24,78 @@ const FAR: usize = 256;
 
 pub struct Stepwise {
     rust: Rust,
-    ids: Vec<ComponentId>,
+    max_retry: u8,
+    entries: Vec<Entry>,
     queue: VecDeque<(Event, Origin)>,
     /// The effects of the batch that are not handed out yet, and how many were.
     batch: VecDeque<Effect>,
     place: usize,
     waiting: Option<Effect>,
     failures: usize,
-    /// The events taken since the last begin, each with the machine before it,
-    /// and the number of those taken in this call.
-    taken: Vec<(Machine, Event)>,
+    /// The events taken in this dispatch, and those taken in this call.
+    dispatch_taken: usize,
     call_taken: usize,
     /// Whether the machine was set up, and not led to by a history.
     set_up: bool,
+    /// Whether corners are noted; who only follows a history has no use for them.
+    noting: bool,
     corners: Vec<String>,
+    /// Whether the steps of a dispatch are kept, and those kept: each event with
+    /// the machine that took it.
+    keeping: bool,
+    kept: Vec<(Machine, Event)>,
+    events: u64,
 }
 
 impl Stepwise {
     /// A machine for the entries, with nothing waiting or queued.
-    pub fn new(rust: Rust, entries: &[Entry]) -> Self {
+    pub fn new(rust: Rust, max_retry: u8, entries: Vec<Entry>) -> Self {
         Self {
             rust,
-            ids: entries.iter().map(|(id, _)| *id).collect(),
+            max_retry,
+            entries,
             queue: VecDeque::new(),
             batch: VecDeque::new(),
             place: 0,
             waiting: None,
             failures: 0,
-            taken: Vec::new(),
+            dispatch_taken: 0,
             call_taken: 0,
             set_up: false,
+            noting: true,
             corners: Vec::new(),
+            keeping: false,
+            kept: Vec::new(),
+            events: 0,
+        }
+    }
+
+    /// The same machine, with no corner noted.
+    pub fn silent(self) -> Self {
+        Self {
+            noting: false,
+            ..self
+        }
+    }
+
+    /// The same machine, which keeps the steps of the last dispatch.
+    pub fn keeping(self) -> Self {
+        Self {
+            keeping: true,
+            ..self
         }
     }
 
     /// The same machine in another situation, with nothing waiting or queued.
     pub fn set_up(&mut self, rust: Rust) {
+        let entries = std::mem::take(&mut self.entries);
         *self = Self {
-            ids: std::mem::take(&mut self.ids),
             set_up: true,
+            noting: self.noting,
+            keeping: self.keeping,
             corners: std::mem::take(&mut self.corners),
-            ..Self::new(rust, &[])
+            events: self.events,
+            ..Self::new(rust, self.max_retry, entries)
         };
     }
 
@@ -87,9 +120,14 @@ impl Stepwise {
         self.call_taken
     }
 
+    /// The events that have been taken by all calls.
+    pub fn events(&self) -> u64 {
+        self.events
+    }
+
     /// The events taken since the last begin, each with the machine before it.
-    pub fn taken(&self) -> &[(Machine, Event)] {
-        &self.taken
+    pub fn kept(&self) -> &[(Machine, Event)] {
+        &self.kept
     }
 
     pub fn into_corners(self) -> Vec<String> {
@@ -107,10 +145,10 @@ impl Stepwise {
             self.mark("refused_begin");
             return 10;
         }
-        for name in begun(&event, self.state(), &self.ids) {
+        for name in begun(&event, self.state(), &self.entries) {
             self.mark(&name);
         }
-        self.taken.clear();
+        self.kept.clear();
         self.queue.push_back((event, Origin::Begun));
         self.settle();
         0
@@ -134,7 +172,10 @@ impl Stepwise {
                 self.mark(&format!("replied_then_{}", number_of(&event)));
                 self.enqueue(event, Origin::Fed(effect));
             }
-            Reply::Failed => self.fail(),
+            Reply::Failed => {
+                self.mark(&failed_at(&effect));
+                self.fail();
+            }
         }
         self.settle();
         0
@@ -143,6 +184,9 @@ impl Stepwise {
     /// Notes a corner. Of a machine that was set up only those are noted that
     /// it was set up for.
     fn mark(&mut self, name: &str) {
+        if !self.noting {
+            return;
+        }
         if !self.set_up {
             self.corners.push(name.into());
         } else if SET_UP.contains(&name) {
@@ -244,29 +288,52 @@ impl Stepwise {
     }
 
     fn take(&mut self, event: Event, origin: Origin) {
-        let before = self.machine();
+        let before = (self.noting || self.keeping).then(|| self.machine());
         let sink = self.rust.step_once(&event);
         self.batch.extend(sink.effects());
         self.place = 0;
         self.call_taken += 1;
-        let after = self.machine();
-        let names = taken(&Taken {
+        self.dispatch_taken += 1;
+        self.events += 1;
+        let Some(before) = before else { return };
+        if self.keeping {
+            self.kept.push((before.clone(), event));
+        }
+        if self.noting {
+            self.note_step(before, event, origin, sink.effects());
+        }
+    }
+
+    /// The corners of one step, which began at the machine `before`.
+    fn note_step(&mut self, before: Machine, event: Event, origin: Origin, effects: &[Effect]) {
+        let case = Case {
+            max_retry: self.max_retry,
+            entries: std::mem::take(&mut self.entries),
+            machine: before,
             event,
+        };
+        let answer = Answer {
+            machine: self.machine(),
+            effects: effects.to_vec(),
+        };
+        let names = taken(&Taken {
+            case: &case,
+            answer: &answer,
             origin,
-            before: &before,
-            after: &after,
-            effects: sink.effects(),
         });
+        self.entries = case.entries;
         for name in names {
             self.mark(&name);
         }
-        self.taken.push((before, event));
     }
 
     fn end(&mut self) {
-        for name in ended(&self.machine(), self.taken.len()) {
-            self.mark(&name);
+        if self.noting {
+            for name in ended(&self.machine(), self.dispatch_taken) {
+                self.mark(&name);
+            }
         }
         self.failures = 0;
+        self.dispatch_taken = 0;
     }
 }

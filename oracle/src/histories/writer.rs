@@ -52,14 +52,14 @@ impl<'a> Writer<'a> {
         Self {
             random,
             max_retry,
-            machine: Stepwise::new(rust, &entries),
+            machine: Stepwise::new(rust, max_retry, entries.clone()).silent(),
             entries,
             calls: vec![Call::New { max_retry, list }],
         }
     }
 
     pub fn finish(self) -> History {
-        History { calls: self.calls }
+        History::new(self.calls)
     }
 
     pub fn calls(&self) -> usize {
@@ -128,6 +128,13 @@ impl<'a> Writer<'a> {
     pub fn dispatch(&mut self, event: Event, mood: Mood) {
         self.begin(event);
         self.replies(mood);
+    }
+
+    /// Where a recovery is reported to have failed, the event as the reply.
+    pub fn reply_once_more(&mut self, event: Event) {
+        if let Some(Effect::ReportRecoveryFailed(_)) = self.machine.waiting() {
+            self.reply(Reply::Then(event));
+        }
     }
 
     /// Replies up to the end of the dispatch, with refused begins among them.

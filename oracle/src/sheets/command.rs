@@ -5,13 +5,17 @@ use std::io::{self, Read, Write};
 use std::path::Path;
 use std::process::ExitCode;
 
-use super::compare::{compare, write};
+use super::compare::{compare, cover, write};
+use super::generate::cases;
 use super::programs::Programs;
 use super::record::Recording;
+use super::sample::sample;
 use crate::command::{number, print_outcome, with_arguments};
 
 const USAGE: &str = "usage: sheets run
        sheets generate SEED COUNT FOLDER
+       sheets sample SEED FOLDER
+       sheets cover SEED COUNT
        sheets compare SEED COUNT REPLAY LOADER";
 
 /// Runs the command that the arguments name.
@@ -24,8 +28,13 @@ fn run(arguments: &[&OsStr]) -> Result<ExitCode, String> {
     let result = match (command.to_str(), rest) {
         (Some("run"), []) => run_input().map(|()| ExitCode::SUCCESS),
         (Some("generate"), [seed, count, folder]) => {
-            write(number(seed)?, number(count)?, Path::new(folder)).map(|()| ExitCode::SUCCESS)
+            let sheets = cases(number(seed)?).take(number(count)?);
+            write(sheets, Path::new(folder)).map(|()| ExitCode::SUCCESS)
         }
+        (Some("sample"), [seed, folder]) => {
+            write(sample(number(seed)?), Path::new(folder)).map(|()| ExitCode::SUCCESS)
+        }
+        (Some("cover"), [seed, count]) => print_outcome(&cover(number(seed)?, number(count)?)),
         (Some("compare"), [seed, count, replay, loader]) => {
             let programs = Programs::new(replay, loader);
             compare(number(seed)?, number(count)?, &programs)

@@ -33,6 +33,17 @@ pub fn compare(seed: u64, count: usize, programs: &Programs) -> io::Result<Outco
     Ok(outcome)
 }
 
+/// What `count` sheets reach, with no program to compare.
+pub fn cover(seed: u64, count: usize) -> Outcome<Counts> {
+    let mut outcome = Outcome::<Counts>::default();
+    for case in cases(seed).take(count) {
+        let recording = Recording::of_input(&case.text);
+        outcome.counts.record(&case, &recording);
+    }
+    outcome.failures = outcome.counts.missed_minimums();
+    outcome
+}
+
 /// The number of a sheet, and its text.
 pub fn shown(index: usize, case: &Case) -> String {
     let text = &case.text[..case.text.len().min(SHOWN)];
@@ -42,10 +53,10 @@ pub fn shown(index: usize, case: &Case) -> String {
     format!("sheet {index}, {bytes} bytes, {source}: {text}")
 }
 
-/// Writes the sheets into a folder, each with what `replay` has to print.
-pub fn write(seed: u64, count: usize, folder: &Path) -> io::Result<()> {
+/// Writes sheets into a folder, each with what `replay` has to print.
+pub fn write(cases: impl IntoIterator<Item = Case>, folder: &Path) -> io::Result<()> {
     fs::create_dir_all(folder)?;
-    for (index, case) in cases(seed).take(count).enumerate() {
+    for (index, case) in cases.into_iter().enumerate() {
         let printed = Recording::of_input(&case.text).printed();
         fs::write(folder.join(format!("{index}.sheet")), &case.text)?;
         fs::write(folder.join(format!("{index}.transcript")), printed)?;

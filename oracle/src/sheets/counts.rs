@@ -3,16 +3,18 @@
 use std::fmt;
 
 use super::damage::DAMAGES;
-use super::generate::{Case, SOURCES};
+use super::generate::{Case, sources};
 use super::record::{Moment, OK_AT_THE_END, OK_BEFORE_AN_EVENT, Recording};
 use super::{PROGRAM_BYTES, PROGRAM_LIMIT};
 use crate::histories::corners;
 use crate::subject;
 use crate::tally::{Tally, missed};
 
-/// From this many sheets on, a comparison must reach each row so often.
+/// From this many sheets on, a comparison must reach each row so often, and each
+/// of the rare ones.
 const MINIMUMS_FROM: u64 = 20_000;
 const LEAST: u64 = 5;
+const LEAST_OF_RARE: u64 = 1;
 
 /// Corners that step calls reach and sheets do not.
 const CALLS_ALONE: [&str; 6] = [
@@ -29,15 +31,18 @@ const NEVER: &str = "number_9";
 
 pub struct Counts {
     sheets: u64,
+    events: u64,
     rows: Tally,
+    rare: Tally,
+    never: Tally,
 }
 
 /// The rows that a comparison has to reach.
-fn names() -> Vec<String> {
+pub fn names() -> Vec<String> {
     let mut names: Vec<String> = (0..=8).map(|number| format!("number_{number}")).collect();
     names.extend(["bad_line_1", "bad_line_2", "bad_line_later"].map(String::from));
     names.extend(["X", "S", "T"].map(|kind| format!("no_room_for_{kind}")));
-    names.extend(SOURCES.map(|source| format!("made_from_{source}")));
+    names.extend(sources().iter().map(|source| format!("made_from_{source}")));
     names.extend(DAMAGES.map(|(name, _)| format!("damaged_{name}")));
     names.extend([OK_BEFORE_AN_EVENT, OK_AT_THE_END].map(String::from));
     let corners = corners::names().into_iter();
@@ -45,65 +50,84 @@ fn names() -> Vec<String> {
     names
 }
 
+/// What no sheet reaches.
+fn never_names() -> Vec<String> {
+    let mut names = corners::never_names();
+    names.push(NEVER.into());
+    names
+}
+
 impl Default for Counts {
     fn default() -> Self {
-        let mut names = names();
-        names.push(NEVER.into());
         Self {
             sheets: 0,
-            rows: Tally::new(names),
+            events: 0,
+            rows: Tally::new(names()),
+            rare: Tally::new(corners::rare_names()),
+            never: Tally::new(never_names()),
         }
     }
 }
 
-impl Counts {
-    fn add(&mut self, name: &str) {
-        assert!(self.rows.add(name), "{name} is not a row");
+/// The names under which a case and its recording are counted.
+pub fn reached(case: &Case, recording: &Recording) -> Vec<String> {
+    let mut names = vec![of_source(case.source)];
+    names.extend(of_refusal(recording));
+    // Past a stop the programs reach no corner.
+    if recording.answer().refusal.number != 8 {
+        let corners = recording.corners.iter();
+        let corners = corners.filter(|name| !CALLS_ALONE.contains(&name.as_str()));
+        names.extend(corners.cloned());
     }
+    names
+}
 
-    fn record_refusal(&mut self, recording: &Recording) {
-        let (answer, place) = recording.stopped(PROGRAM_BYTES, PROGRAM_LIMIT);
-        self.add(&format!("number_{}", answer.refusal.number));
-        match (answer.refusal.number, answer.refusal.place) {
-            (1, 1) => self.add("bad_line_1"),
-            (1, 2) => self.add("bad_line_2"),
-            (1, 3..) => self.add("bad_line_later"),
-            (8, _) => {
-                if let Moment::Line(line) = &recording.moments[place] {
-                    self.add(&format!("no_room_for_{}", &line[..1]));
-                }
+/// A case is made from one of the sources, or damaged.
+fn of_source(source: &str) -> String {
+    let prefix = if sources().contains(&source) {
+        "made_from"
+    } else {
+        "damaged"
+    };
+    format!("{prefix}_{source}")
+}
+
+fn of_refusal(recording: &Recording) -> Vec<String> {
+    let (answer, place) = recording.stopped(PROGRAM_BYTES, PROGRAM_LIMIT);
+    let number = answer.refusal.number;
+    let mut names = vec![format!("number_{number}")];
+    match (number, answer.refusal.place) {
+        (1, 1) => names.push("bad_line_1".into()),
+        (1, 2) => names.push("bad_line_2".into()),
+        (1, 3..) => names.push("bad_line_later".into()),
+        (8, _) => {
+            if let Moment::Line(line) = &recording.moments[place] {
+                names.push(format!("no_room_for_{}", &line[..1]));
             }
-            _ => {}
         }
+        _ => {}
     }
+    names
 }
 
 impl subject::Counts<Case, Recording> for Counts {
     fn record(&mut self, case: &Case, recording: &Recording) {
         self.sheets += 1;
-        let prefix = if SOURCES.contains(&case.source) {
-            "made_from"
-        } else {
-            "damaged"
-        };
-        self.add(&format!("{prefix}_{}", case.source));
-        self.record_refusal(recording);
-        // Past a stop the programs reach no corner.
-        if recording.answer().refusal.number != 8 {
-            for name in &recording.corners {
-                self.rows.add(name);
-            }
+        self.events += recording.answer().settled;
+        for name in reached(case, recording) {
+            let added = [&mut self.rows, &mut self.rare, &mut self.never].map(|t| t.add(&name));
+            assert!(added.contains(&true), "{name} is not a row");
         }
     }
 
     fn missed_minimums(&self) -> Vec<String> {
-        let (never, required) = self.rows.rows().split_last().expect("rows");
-        let mut messages = Vec::new();
-        if never.1 > 0 {
-            messages.push(format!("{} is {}, but cannot be", never.0, never.1));
-        }
+        let reached = self.never.rows().iter().filter(|(_, count)| *count > 0);
+        let mut messages: Vec<String> = reached
+            .map(|(name, count)| format!("{name} is {count}, but cannot be"))
+            .collect();
         if self.sheets >= MINIMUMS_FROM {
-            messages.extend(missed(required, LEAST));
+            messages.extend(missed(self.rows.rows(), LEAST));
+            messages.extend(missed(self.rare.rows(), LEAST_OF_RARE));
         }
         messages
     }
@@ -111,7 +135,9 @@ impl subject::Counts<Case, Recording> for Counts {
 
 impl fmt::Display for Counts {
     fn fmt(&self, f: &mut fmt::Formatter<'_>) -> fmt::Result {
-        write!(f, "sheets {}\n{}", self.sheets, self.rows)
+        writeln!(f, "sheets {}", self.sheets)?;
+        writeln!(f, "events {}", self.events)?;
+        write!(f, "{}{}{}", self.rows, self.rare, self.never)
     }
 }
 
@@ -124,7 +150,7 @@ mod tests {
         let mut counts = Counts::default();
         let case = Case {
             text: text.into(),
-            source: SOURCES[1],
+            source: sources()[0],
         };
         counts.record(&case, &Recording::of_input(&case.text));
         counts
@@ -135,9 +161,9 @@ mod tests {
     #[test]
     fn a_sheet_is_counted_in_its_rows() {
         let table = counts_of(SHEET).to_string();
-        assert!(table.starts_with("sheets 1\nnumber_0 1\nnumber_1 0\n"));
+        assert!(table.starts_with("sheets 1\nevents 1\nnumber_0 1\nnumber_1 0\n"));
         for line in [
-            "made_from_history 1",
+            "made_from_small_chains 1",
             "answered_ok_at_the_end 1",
             "answered_ok_before_an_E_line 0",
             "begun_0 1",
@@ -145,6 +171,7 @@ mod tests {
             "handed_1 1",
             "replied_done 2",
             "ended_in_1 1",
+            "step_pair_0_0 1",
         ] {
             assert!(table.contains(&format!("\n{line}\n")), "{line}");
         }
@@ -157,13 +184,16 @@ mod tests {
         let mut counts = counts_of(SHEET);
         assert!(counts.missed_minimums().is_empty());
         counts.sheets = MINIMUMS_FROM;
-        assert_eq!(counts.missed_minimums().len(), names().len());
+        let rare = counts.rare.rows();
+        let unreached = rare.iter().filter(|(_, count)| *count == 0).count();
+        assert!(0 < unreached && unreached < rare.len());
+        assert_eq!(counts.missed_minimums().len(), names().len() + unreached);
     }
 
     #[test]
     fn a_limit_that_cannot_be_met_is_a_failure() {
         let mut counts = counts_of(SHEET);
-        counts.add(NEVER);
+        counts.never.add(NEVER);
         assert_eq!(counts.missed_minimums(), ["number_9 is 1, but cannot be"]);
     }
 }

@@ -6,7 +6,7 @@ use openprot_orchestrator_sm::{ComponentId, ComponentKind, Event, PowerOnResult}
 use super::damage::damage;
 use super::extremes::extremes;
 use super::{Line, PROGRAM_BYTES, Sheet};
-use crate::histories::generate::histories;
+use crate::histories::generate::{PROFILES, SET_UP_MACHINES, histories};
 use crate::histories::stepwise::Stepwise;
 use crate::histories::{Call, History, Reply};
 use crate::lists::answer::chain;
@@ -24,21 +24,25 @@ pub struct Case {
 }
 
 const EXTREME: &str = "extreme";
-const HISTORY: &str = "history";
 const WITHOUT_EVENTS: &str = "without_events";
 const MANY_COMPONENTS: &str = "many_components";
 const TOO_LONG: &str = "too_long";
 const LONG_TRANSCRIPT: &str = "long_transcript";
 
-/// What a case is made from, unless it is damaged.
-pub const SOURCES: [&str; 6] = [
-    EXTREME,
-    HISTORY,
-    WITHOUT_EVENTS,
-    MANY_COMPONENTS,
-    TOO_LONG,
-    LONG_TRANSCRIPT,
-];
+/// What a case is made from, unless it is damaged: the profile of a history, or
+/// something that histories do not have.
+pub fn sources() -> Vec<&'static str> {
+    let profiles = PROFILES.iter().map(|profile| profile.name);
+    let mut sources: Vec<&str> = profiles.filter(|name| *name != SET_UP_MACHINES).collect();
+    sources.extend([
+        EXTREME,
+        WITHOUT_EVENTS,
+        MANY_COMPONENTS,
+        TOO_LONG,
+        LONG_TRANSCRIPT,
+    ]);
+    sources
+}
 
 /// The extremes, then endless cases for a seed. The same seed gives the same
 /// cases.
@@ -51,7 +55,7 @@ pub fn cases(seed: u64) -> impl Iterator<Item = Case> {
     // The first history has no machine; others set theirs up, which no sheet can.
     let mut histories = histories(random.next_u64())
         .skip(1)
-        .filter(|history| !history.calls.iter().any(|c| matches!(c, Call::SetUp(_))));
+        .filter(|history| history.profile != SET_UP_MACHINES);
     extremes.chain(std::iter::repeat_with(move || {
         let history = histories.next().expect("endless histories");
         draw_case(&mut random, &history)
@@ -78,7 +82,7 @@ fn draw_case(random: &mut SplitMix64, history: &History) -> Case {
         }
         _ => (
             of_history(random, history).to_string().into_bytes(),
-            HISTORY,
+            history.profile,
         ),
     };
     Case { text, source }
@@ -117,7 +121,8 @@ pub fn of_history(random: &mut SplitMix64, history: &History) -> Sheet {
 /// The machine of a list, if it is accepted.
 fn machine(max_retry: u8, list: &List) -> Option<Stepwise> {
     let chain = chain(&list.entries).ok()?;
-    Some(Stepwise::new(Rust::new(chain, max_retry), &list.entries))
+    let rust = Rust::new(chain, max_retry);
+    Some(Stepwise::new(rust, max_retry, list.entries.clone()).silent())
 }
 
 /// The lines so far, beside a machine that follows them.
@@ -273,7 +278,7 @@ mod tests {
         for case in cases(3).take(4_000) {
             if let Ok(sheet) = read(&case.text) {
                 assert_eq!(sheet.to_string().into_bytes(), case.text);
-                damaged_and_read += u32::from(!SOURCES.contains(&case.source));
+                damaged_and_read += u32::from(!sources().contains(&case.source));
             }
         }
         assert!(damaged_and_read > 100, "{damaged_and_read}");
@@ -282,7 +287,7 @@ mod tests {
     #[test]
     fn histories_become_well_formed_sheets() {
         for case in cases(4).take(1_000) {
-            if case.source == HISTORY {
+            if PROFILES.iter().any(|profile| profile.name == case.source) {
                 assert!(read(&case.text).is_ok());
             }
         }

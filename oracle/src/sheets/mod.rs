@@ -12,6 +12,7 @@ pub mod library;
 pub mod programs;
 pub mod read;
 pub mod record;
+pub mod sample;
 pub mod text;
 
 use openprot_orchestrator_sm::Event;

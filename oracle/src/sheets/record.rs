@@ -161,7 +161,7 @@ impl<'a> Run<'a> {
         Self {
             sheet,
             looked_at: 0,
-            stepwise: Stepwise::new(Self::machine(sheet), &sheet.entries),
+            stepwise: Stepwise::new(Self::machine(sheet), sheet.max_retry, sheet.entries.clone()),
             recording: Recording::refused(Refusal::NONE),
         }
     }

@@ -5,6 +5,7 @@ use std::fmt;
 use super::Visit;
 use super::chains::{MOST, max_retries};
 use crate::histories::Answers;
+use crate::histories::unreached::is_unreached;
 use crate::steps::answer::answer;
 use crate::steps::rows::{names, reached};
 use crate::subject;
@@ -73,9 +74,12 @@ impl subject::Counts<Visit, Answers> for Counts {
     }
 
     /// What no walk reaches is printed, and not a failure: many rows need
-    /// longer chains, or a machine that is set up.
+    /// longer chains. A failure is what no history should reach.
     fn missed_minimums(&self) -> Vec<String> {
-        Vec::new()
+        let rows = self.rows.rows().iter();
+        rows.filter(|(row, count)| *count > 0 && is_unreached(row))
+            .map(|(row, count)| format!("{row} is {count}, but no history should reach it"))
+            .collect()
     }
 }
 
@@ -96,5 +100,21 @@ impl fmt::Display for Counts {
             writeln!(f, "unreached {row}")?;
         }
         Ok(())
+    }
+}
+
+#[cfg(test)]
+mod tests {
+    use super::*;
+    use crate::subject::Counts as _;
+
+    #[test]
+    fn a_row_that_no_history_should_reach_is_a_failure() {
+        let mut counts = Counts::default();
+        assert!(counts.missed_minimums().is_empty());
+        counts.rows.add("passed_pre_supervision_active_one_left");
+        counts.rows.add("timeout_awaiting_isolated");
+        let message = "timeout_awaiting_isolated is 1, but no history should reach it";
+        assert_eq!(counts.missed_minimums(), [message]);
     }
 }

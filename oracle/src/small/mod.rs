@@ -9,7 +9,7 @@ pub mod walk;
 
 use std::fmt;
 
-use crate::histories::answer::answer;
+use crate::histories::answer::answer_noting;
 use crate::histories::{Answers, Call, History};
 use crate::lists::Entry;
 use crate::steps::Case;
@@ -71,7 +71,7 @@ impl Compared for Small {
     type Counts = counts::Counts;
 
     fn answer(visit: &Visit) -> Answers {
-        answer(&visit.history)
+        answer_noting(&visit.history, false)
     }
 
     /// The first call, and those since the last set-up: what came before that
@@ -85,7 +85,7 @@ impl Compared for Small {
             Some(place) => [&calls[..1], &calls[place..]].concat(),
             None => calls.to_vec(),
         };
-        History { calls }.to_string()
+        History::new(calls).to_string()
     }
 }
 

@@ -59,8 +59,9 @@ impl Walk {
     /// The entries are an accepted chain.
     pub fn new(entries: Vec<Entry>, max_retry: u8) -> Self {
         let rust = Rust::new(chain(&entries).expect("an accepted chain"), max_retry);
+        let stepwise = Stepwise::new(rust, max_retry, entries.clone());
         let mut walk = Self {
-            stepwise: Stepwise::new(rust, &entries),
+            stepwise: stepwise.silent().keeping(),
             entries,
             max_retry,
             reached: Vec::new(),
@@ -101,9 +102,7 @@ impl Walk {
         let to = if events.is_empty() { 0 } else { place };
         let mut visiting = Visiting {
             visit: Visit {
-                history: History {
-                    calls: self.path(to),
-                },
+                history: History::new(self.path(to)),
                 steps: Vec::new(),
                 entries: self.entries.clone(),
                 max_retry: self.max_retry,
@@ -220,9 +219,9 @@ impl Visiting<'_> {
     /// The single steps of the dispatch that has ended.
     fn note_steps(&mut self) {
         let walk = &mut *self.walk;
-        let taken = walk.stepwise.taken();
-        self.visit.settled += taken.len() as u64;
-        for (machine, event) in taken {
+        let kept = walk.stepwise.kept();
+        self.visit.settled += kept.len() as u64;
+        for (machine, event) in kept {
             let step = (key(machine), event_fields(event));
             if walk.stepped.insert(step) {
                 self.visit.steps.push(Case {

@@ -125,7 +125,7 @@ fn release_of_the_last(random: &mut SplitMix64) -> Case {
 
 /// Any state; an id that it carries is one of the chain's.
 fn draw_state(random: &mut SplitMix64, entries: &[Entry]) -> State {
-    let number = draw_state_number(random);
+    let number = random.weighted(&STATE_WEIGHTS);
     let id = entries[position(random, entries.len())].0;
     let carried = match number {
         AWAITING_READY => (!random.one_in(4)).then_some(id),
@@ -133,17 +133,6 @@ fn draw_state(random: &mut SplitMix64, entries: &[Entry]) -> State {
         _ => None,
     };
     state(number as u64, carried).expect("the id fits the state")
-}
-
-fn draw_state_number(random: &mut SplitMix64) -> usize {
-    let mut left = random.below(STATE_WEIGHTS.iter().sum());
-    for (number, weight) in STATE_WEIGHTS.iter().enumerate() {
-        if left < *weight {
-            return number;
-        }
-        left -= weight;
-    }
-    unreachable!("a number below the sum falls to one state")
 }
 
 /// A position, or the length after the last one.

@@ -1,9 +1,10 @@
--- `handle_corruption` meets its contract: the test and the arms are those of the definition.
+-- `handle_corruption` meets its contract: both tests are those of the definition.
 use Rattle.chain.specs.Tables.{entries, size}
 use Rattle.components.specs.Chain.{position}
-use Rattle.corruption.specs.Cases.{follows}
-use Rattle.entry.proofs.Now.{gated-now, policy-now}
-use Rattle.corruption.proofs.Outcomes.{hold-one, hold-all}
+use Rattle.corruption.specs.Corruption.{recover}
+use Rattle.corruption.specs.Cases.{follows, before}
+use Rattle.entry.proofs.Now.{gated-now}
+use Rattle.corruption.proofs.Outcomes.{gated-then, ungated-then}
 use borrow.Author.Needs.{needs}
 use Rattle.corruption.proofs.handle_corruption.Statement.{statement}
 use Rattle.corruption.proofs.handle_corruption.Tie as tie
@@ -23,62 +24,42 @@ returns c =
     rw (gated-now (s .args .w .rot) _ (size (s .args .chain)) (s .args .p) (position (entries (s .args .chain)) (s .args .id)) (c .before .before .before .before .count .ensures .0) (s .pre .here) _ _ (c .before .before .is-gated .ensures) (c .before .if1 .taken))
     (c .follow .ensures)
 
-policy-at-requires : tie.Need-policy-at-requires
-policy-at-requires c κs = search needs
-
-enum-told : tie.Need-enum-told
-enum-told c = search needs
-
-start-recovery-requires : tie.Need-start-recovery-requires
-start-recovery-requires c κs = search needs
-
-enum-told-2 : tie.Need-enum-told-2
-enum-told-2 c = search needs
-
-gate-one-requires : tie.Need-gate-one-requires
-gate-one-requires c κs = search needs
+gate-by-policy-requires : tie.Need-gate-by-policy-requires
+gate-by-policy-requires c κs = search needs
 
 follow-requires-2 : tie.Need-follow-requires-2
 follow-requires-2 c κs = search needs
-
-enum-told-3 : tie.Need-enum-told-3
-enum-told-3 c = search needs
-
-cascade-hold-requires : tie.Need-cascade-hold-requires
-cascade-hold-requires c κs = search needs
-
-follow-requires-3 : tie.Need-follow-requires-3
-follow-requires-3 c κs = search needs
 
 returns-2 : tie.Need-returns-2
 returns-2 c =
     let s = c .before .before .before .before .before .before .before .before in
     let ch = entries (s .args .chain) in
-    rw (
-      gated-now (s .args .w .rot) _ (size (s .args .chain)) (s .args .p) (position ch (s .args .id)) (c .before .before .before .before .before .before .before .count .ensures .0) (s .pre .here) _ _ (c .before .before .before .before .before .is-gated .ensures) (c .before .before .before .before .if1 .left),
-      policy-now ch (s .args .p) (position ch (s .args .id)) _ _ (s .pre .here) (c .before .before .before .policy-at .ensures) (c .before .enum-told .given .1),
-    )
-    (c .start-recovery .ensures)
+    let i = s .args .id in
+    let q = position ch i in
+    let size-now = c .before .before .before .before .before .before .before .count .ensures .0 in
+    let tested = c .before .before .before .before .before .is-gated .ensures in
+    let g = c .before .before .before .gate-by-policy .ensures in
+    let free = c .before .before .before .before .if1 .left in
+    rw (gated-now (s .args .w .rot) _ (size (s .args .chain)) (s .args .p) q size-now (s .pre .here) _ _ tested free)
+    (gated-then ch (s .args .p) q _ (recover ch (before (s .args .situation)) i) (follows (s .args .situation) ch) (s .pre .here)
+    (g .told) (g .done) (c .before .if2 .taken) (c .follow2 .ensures))
+
+start-recovery-requires : tie.Need-start-recovery-requires
+start-recovery-requires c κs = search needs
 
 returns-3 : tie.Need-returns-3
 returns-3 c =
-    let s = c .before .before .before .before .before .before .before .before .before in
+    let s = c .before .before .before .before .before .before .before .before in
     let ch = entries (s .args .chain) in
-    rw (
-      gated-now (s .args .w .rot) _ (size (s .args .chain)) (s .args .p) (position ch (s .args .id)) (c .before .before .before .before .before .before .before .before .count .ensures .0) (s .pre .here) _ _ (c .before .before .before .before .before .before .is-gated .ensures) (c .before .before .before .before .before .if1 .left),
-      policy-now ch (s .args .p) (position ch (s .args .id)) _ _ (s .pre .here) (c .before .before .before .before .policy-at .ensures) (c .before .before .enum-told2 .given .1),
-    )
-    (hold-one ch (s .args .p) (position ch (s .args .id)) (follows (s .args .situation) ch) (s .pre .here) (c .before .gate-one .ensures) (c .follow2 .ensures))
-
-returns-4 : tie.Need-returns-4
-returns-4 c =
-    let s = c .before .before .before .before .before .before .before .before .before in
-    let ch = entries (s .args .chain) in
-    rw (
-      gated-now (s .args .w .rot) _ (size (s .args .chain)) (s .args .p) (position ch (s .args .id)) (c .before .before .before .before .before .before .before .before .count .ensures .0) (s .pre .here) _ _ (c .before .before .before .before .before .before .is-gated .ensures) (c .before .before .before .before .before .if1 .left),
-      policy-now ch (s .args .p) (position ch (s .args .id)) _ _ (s .pre .here) (c .before .before .before .before .policy-at .ensures) (c .before .before .enum-told3 .given .1),
-    )
-    (hold-all ch (s .args .p) (position ch (s .args .id)) (follows (s .args .situation) ch) (s .pre .here) (c .before .cascade-hold .ensures) (c .follow3 .ensures))
+    let i = s .args .id in
+    let q = position ch i in
+    let size-now = c .before .before .before .before .before .before .before .count .ensures .0 in
+    let tested = c .before .before .before .before .before .is-gated .ensures in
+    let g = c .before .before .before .gate-by-policy .ensures in
+    let free = c .before .before .before .before .if1 .left in
+    rw (gated-now (s .args .w .rot) _ (size (s .args .chain)) (s .args .p) q size-now (s .pre .here) _ _ tested free)
+    (ungated-then ch (s .args .p) q _ (recover ch (before (s .args .situation)) i) (follows (s .args .situation) ch) (s .pre .here)
+    (g .told) (g .done) (c .before .if2 .left) (c .start-recovery .ensures))
 
 pub handle-corruption-spec : {M : Type 1} → statement M
 handle-corruption-spec =
@@ -88,15 +69,8 @@ handle-corruption-spec =
     is-gated-requires
     follow-requires
     returns
-    policy-at-requires
-    enum-told
-    start-recovery-requires
-    enum-told-2
-    gate-one-requires
+    gate-by-policy-requires
     follow-requires-2
-    enum-told-3
-    cascade-hold-requires
-    follow-requires-3
     returns-2
-    returns-3
-    returns-4)
+    start-recovery-requires
+    returns-3)

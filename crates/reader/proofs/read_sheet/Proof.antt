@@ -6,7 +6,7 @@ use native.Mathlib.Omega.{arith}
 use lib.ListN.{length}
 use Rattle.components.specs.declared.ComponentList.{ComponentList}
 use Rattle.reader.specs.declared.Part.the-variants.{Opening}
-use Rattle.reader.proofs.Left.{Left, left-all, refused, left-wrong, left-next, left-opening, left-end}
+use Rattle.reader.proofs.Left.{Left, left-all, left-wrong, left-next, left-opening, left-end}
 use borrow.Author.Needs.{needs}
 use Rattle.reader.proofs.read_sheet.Statement.{statement}
 use Rattle.reader.proofs.read_sheet.Tie as tie
@@ -38,9 +38,8 @@ returns : tie.Need-returns Inv-loop μ-loop
 returns c =
     let line = c .before .before .before in
     let known = line .before .before .loop in
-    refused _ _
-    (left-wrong _ _ _ _ _ _ (known .inv .3) _ (line .next-line .ensures) _ (c .before .before .part-after .ensures) (sym (c .before .is-wrong .ensures) ∙ c .if1 .taken))
-    (known .inv .1)
+    left-wrong _ _ _ _ _ _ (known .inv .3) _ (line .next-line .ensures) _ (c .before .before .part-after .ensures)
+    (sym (c .before .is-wrong .ensures) ∙ c .if1 .taken)
 
 retry-after-requires : tie.Need-retry-after-requires Inv-loop μ-loop
 retry-after-requires c κs = search needs
@@ -82,7 +81,7 @@ is-opening-requires c κs = search needs
 returns-2 : tie.Need-returns-2 Inv-loop μ-loop
 returns-2 c =
     let known = c .before .before .before .loop in
-    refused _ _ (left-opening _ _ _ _ _ _ (known .inv .3) (c .before .before .loop-test .left) (sym (c .before .is-opening .ensures) ∙ c .if2 .taken)) (known .inv .1)
+    left-opening _ _ _ _ _ _ (known .inv .3) (c .before .before .loop-test .left) (sym (c .before .is-opening .ensures) ∙ c .if2 .taken)
 
 returns-3 : tie.Need-returns-3 Inv-loop μ-loop
 returns-3 c =

@@ -15,7 +15,7 @@ abbrev μ-loop : tie.MeasureT-loop
 μ-loop v₀ k₀ v k = 521 - k
 
 loop-holds : tie.Need-loop-holds Inv-loop μ-loop
-loop-holds c = (omega arith, c .pre .0, turned-none (c .args .m) (c .pre .0))
+loop-holds c = (omega arith, c .pre, turned-none (c .args .m) (c .pre))
 
 at-rest-requires : tie.Need-at-rest-requires Inv-loop μ-loop
 at-rest-requires c κs = c .before .loop .inv .2 .whole
@@ -24,7 +24,7 @@ returns : tie.Need-returns Inv-loop μ-loop
 returns c =
     let s = c .before .before .before .before in
     let l = c .before .before .before .loop in
-    turned-rested (s .args .m) (l .v) (l .k) (s .pre .0) (s .pre .1) (l .inv .0) (l .inv .2) (c .before .at-rest .ensures (c .if1 .taken))
+    turned-rested (s .args .m) (l .v) (l .k) (s .pre) (l .inv .0) (l .inv .2) (c .before .at-rest .ensures (c .if1 .taken))
 
 turn-requires : tie.Need-turn-requires Inv-loop μ-loop
 turn-requires c κs = c .before .before .before .loop .inv .2 .whole
@@ -39,14 +39,14 @@ loop-again : tie.Need-loop-again Inv-loop μ-loop
 loop-again c =
     let l = c .before .before .before .before .loop in
     let s = c .before .before .before .before .before in
-    (omega arith, s .pre .0, turned-more (s .args .m) (l .v) (c .turn .result) (l .k) (l .inv .2) (c .turn .ensures))
+    (omega arith, s .pre, turned-more (s .args .m) (l .v) (c .turn .result) (l .k) (l .inv .2) (c .turn .ensures))
 
 returns-2 : tie.Need-returns-2 Inv-loop μ-loop
 returns-2 c =
     let s = c .before .before in
     let l = c .before .loop in
     let all : l .k ≡ 521 = omega (arith, l .inv .0) in
-    becomes-as (l .inv .2) (ap (turning (s .args .m)) all ∙ turned-enough (s .args .m) (s .pre .0) (s .pre .1))
+    becomes-as (l .inv .2) (ap (turning (s .args .m)) all ∙ turned-enough (s .args .m) (s .pre))
 
 pub settle-spec : {M : Type 1} → statement M
 settle-spec =

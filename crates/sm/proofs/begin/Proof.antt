@@ -23,7 +23,7 @@ settle-requires c κs =
     let s = c .before .before .before .before in
     let m = s .args .machine in
     let d = sym (c .before .before .before .is-done .ensures) ∙ c .before .before .if1 .taken in
-    (begun m (s .pre) (s .args .event) d (c .push-back .result) (c .push-back .ensures) .whole, begun-idle m (s .pre) (s .args .event) d)
+    begun m (s .pre) (s .args .event) d (c .push-back .result) (c .push-back .ensures) .whole
 
 answered-requires : tie.Need-answered-requires
 answered-requires c κs = search needs

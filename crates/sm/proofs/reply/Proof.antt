@@ -1,9 +1,9 @@
 -- `reply` meets its contract: the waiting effect is answered and the machine settled, or the call is refused.
-use mathlib.Core.Path.{sym, ap, _∙_, subst}
+use mathlib.Core.Path.{sym, subst}
 use Rattle.settling.specs.declared.Waiting.the-variants.{Nothing, Handed}
-use Rattle.settling.specs.Settle.{Model, waitingIs, replied}
+use Rattle.settling.specs.Settle.{waitingIs, replied}
 use Rattle.settling.specs.View.{view}
-use Rattle.settling.proofs.Views.{view-waiting, view-few}
+use Rattle.settling.proofs.Views.{view-few}
 use Rattle.sm.specs.Calls.{Expected}
 use Rattle.sm.specs.Gives.{CallGives}
 use Rattle.sm.proofs.Stepping.{replied-idle, replied-few, reply-waiting, settles, refuses}
@@ -24,10 +24,7 @@ replied-requires : tie.Need-replied-requires
 replied-requires c κs = search needs
 
 settle-requires : tie.Need-settle-requires
-settle-requires c κs =
-    let s = c .before .before .before in
-    let m = s .args .machine in
-    (c .replied .ensures .whole, sym (view-waiting (c .replied .result)) ∙ ap (λ (x : Model). x .waiting) (c .replied .ensures .machine) ∙ replied-idle (view m) (s .args .reply))
+settle-requires c κs = c .replied .ensures .whole
 
 answered-requires : tie.Need-answered-requires
 answered-requires c κs = search needs
