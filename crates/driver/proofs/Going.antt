@@ -9,20 +9,34 @@ use lib.Dec.{leb}
 use lib.ListN.{length, take, drop, length-append, length-take, length-drop, length-map}
 use Rattle.model.specs.Vocabulary.{pick}
 use Rattle.model.specs.declared.Component.{Component}
+use Rattle.chain.specs.declared.Chain.{Chain}
 use Rattle.chain.specs.Tables.{entries}
 use Rattle.store.specs.Sink.{held, effectOf}
+use Rattle.text.specs.declared.Line.{Line}
 use Rattle.text.specs.declared.Room.{Room}
 use Rattle.text.specs.declared.Room.the-variants.{At, Full}
 use Rattle.text.specs.Lines.{textOf, written, roomAfter, over}
 use Rattle.text.proofs.Laws.{unfitted}
 use Rattle.text.proofs.Over.{length-over, written-over, room-at, room-full}
 use Rattle.settling.specs.declared.Machine.{Machine}
-use Rattle.settling.specs.View.{view, chainOf, Whole}
+use Rattle.settling.specs.Settle.{Model}
+use Rattle.settling.specs.View.{view, chainOf, Whole, Becomes}
+use Rattle.components.specs.Chain.{idAt}
+use Rattle.machine.specs.Status.{statusAt}
+use Rattle.machine.specs.View.{statusesOf}
+use Rattle.printed.specs.Transcript.{statusLine}
 use Rattle.settling.proofs.Views.{never}
 use Rattle.driver.specs.declared.Cursor.{Cursor}
-use Rattle.driver.specs.declared.Move.{Move}
-use Rattle.driver.specs.Run.{Entry, entryLine, transcript, Setting, Point, Step, Progress, stopped, stepFrom, recorded, steps, toDo, runFrom}
-use Rattle.driver.specs.Seen.{seen, settingOf, Stands, Moved, Stepped, wrote, runOn, Ran}
+use Rattle.driver.specs.declared.Plan.{Plan}
+use Rattle.driver.specs.declared.Stage.{Stage}
+use Rattle.driver.specs.declared.Act.{Act}
+use Rattle.driver.specs.declared.Act.the-variants.{Stay, Queue, Give, Turn}
+use Rattle.driver.specs.declared.Say.{Say}
+use Rattle.driver.specs.declared.Say.the-variants.{Silence, EffectLine, StateLine, StatusLine}
+use Rattle.driver.specs.Run.{Entry, Told, entryLine, transcript, Setting, Point, Step, Progress, stopped, stageOf, stepBy, stepFrom, recorded, steps, toDo, runFrom}
+use Rattle.driver.specs.Seen.{seen, settingOf, runOn, Ran}
+use Rattle.driver.specs.Plans.{atStart, moving, acts, tellingNow, spoken, says, Tells, wrote, Stands, planned, Planned}
+use Rattle.driver.proofs.Moves.{transcript-one, step-by}
 use Rattle.driver.proofs.Less.{step-less}
 
 -- ---- Transcripts and steps
@@ -71,44 +85,87 @@ left-few m w =
 -- ---- Under way
 
 -- What is left to do, with the end: the loop's measure.
-unfoldable pub measure : List ℕ → ℕ → Machine → Cursor → ℕ
-measure s limit m c = pick (c .going) (suc (toDo (settingOf limit m) (seen s c))) 0
+unfoldable pub measure : List ℕ → ℕ → Machine → Machine → Cursor → ℕ
+measure s limit m₀ m c = pick (c .going) (suc (toDo (settingOf limit m₀) (seen s (view m) c))) 0
 
 measure-by : (a b : Bool) (k l : ℕ) → a ≡ true → (b ≡ true → l < k) → pick b (suc l) 0 < pick a (suc k) 0
 measure-by true true k l e h = omega (arith, h refl)
 measure-by true false k l e h = omega arith
 measure-by false b k l e h = never e
 
-module _ (s out : List ℕ) (limit : ℕ) (c₀ : Cursor) where
-  abbrev setting : Setting
-  setting = settingOf limit (c₀ .machine)
+pub becomes-is : {m v r : Machine} {x : Model} → Becomes m x r → v ≡ r → Becomes m x v
+becomes-is {m} {v} {r} {x} b e = subst (Becomes m x) (sym e) b
 
-  -- The cursor c and the buffer `here`, with so many steps left, of which there are enough.
-  pub record Going (here : List ℕ) (c : Cursor) : Type 0 where
+-- A machine that is not touched.
+pub kept : (m : Machine) (act : Act) → moving act ≡ false → Whole m → Becomes m (acts (chainOf m) (m .«max_retry») act (view m)) m
+kept m Stay e w = record { machine = refl; chain = refl; maxRetry = refl; whole = w }
+kept m (Queue x) e w = never (sym e)
+kept m (Give a) e w = never (sym e)
+kept m Turn e w = never (sym e)
+
+-- There is a component for a T line.
+pub tells-one : (say : Say) (p n : ℕ) → tellingNow say ≡ true → Tells say p n → p < n
+tells-one Silence p n e h = never e
+tells-one EffectLine p n e h = never e
+tells-one StateLine p n e h = never e
+tells-one StatusLine p n e h = h
+
+-- The line of a plan: m is the machine before, v the one afterwards.
+module _ (ch : List Component) (m v : Machine) (p : ℕ) where
+  pub line-said : (say : Say) → tellingNow say ≡ false → spoken say (m .state) (v .waiting) ≡ says ch say (view m) (view v) p
+  unfolding view
+  line-said Silence e = refl
+  line-said EffectLine e = refl
+  line-said StateLine e = refl
+  line-said StatusLine e = never (sym e)
+
+  line-told : (say : Say) → tellingNow say ≡ true → statusLine (idAt ch p) (statusAt (view v .core .statuses) p) ≡ transcript (says ch say (view m) (view v) p)
+  line-told Silence e = never e
+  line-told EffectLine e = never e
+  line-told StateLine e = never e
+  line-told StatusLine e = sym (transcript-one (Told (idAt ch p) (statusAt (view v .core .statuses) p)))
+
+  -- With the count n of the components.
+  pub line-told-of : (n : ℕ) → n ≡ length (chainOf v) → (say : Say) → tellingNow say ≡ true → statusLine (idAt ch p) (statusAt (statusesOf n (v .rot)) p) ≡ transcript (says ch say (view m) (view v) p)
+  unfolding view
+  line-told-of n e say h = ap (λ (k : ℕ). statusLine (idAt ch p) (statusAt (statusesOf k (v .rot)) p)) e ∙ line-told say h
+
+module _ (s out : List ℕ) (limit : ℕ) (m₀ : Machine) where
+  abbrev setting : Setting
+  setting = settingOf limit m₀
+
+  abbrev whole-run : Progress
+  whole-run = runFrom setting (length out) (seen s (view m₀) atStart)
+
+  -- The machine m, the cursor c and the buffer `here`, with so many steps left, of which there are enough.
+  pub record Going (here : List ℕ) (m : Machine) (c : Cursor) : Type 0 where
     pub said : List Entry
     pub left : ℕ
+    pub whole : Whole m
     pub stands : Stands s c
-    pub chain : c .machine .chain ≡ c₀ .machine .chain
-    pub maxRetry : c .machine .«max_retry» ≡ c₀ .machine .«max_retry»
+    pub chain : m .chain ≡ m₀ .chain
+    pub maxRetry : m .«max_retry» ≡ m₀ .«max_retry»
     pub size : c .written ≡ length (transcript said)
     pub within : length (transcript said) ≤ length out
     pub buffer : here ≡ over out (transcript said)
-    pub enough : c .going ≡ true → toDo setting (seen s c) < left
-    pub run : runFrom setting (length out) (seen s c₀) ≡ steps setting (length out) left record { point = seen s c; said = said }
+    pub enough : c .going ≡ true → toDo setting (seen s (view m) c) < left
+    pub run : whole-run ≡ steps setting (length out) left record { point = seen s (view m) c; said = said }
 
-  pub began : Stands s c₀ → c₀ .written ≡ 0 → Going out c₀
+  pub began : Whole m₀ → (c : Cursor) → c ≡ atStart → Going out m₀ c
   unfolding runFrom transcript over
-  began h w = record { said = []; left = suc (toDo setting (seen s c₀)); stands = h; chain = refl; maxRetry = refl; size = w; within = omega arith; buffer = refl; enough = λ g. omega arith; run = refl }
+  began w c e =
+      subst (Going out m₀) (sym e)
+      record { said = []; left = suc (toDo setting (seen s (view m₀) atStart)); whole = w; stands = record { within = omega arith; lines = omega arith }; chain = refl; maxRetry = refl; size = refl; within = omega arith; buffer = refl; enough = λ g. omega arith; run = refl }
 
-  module _ (here : List ℕ) (c : Cursor) (g : Going here c) where
+  module _ (here : List ℕ) (m : Machine) (c : Cursor) (g : Going here m c) where
     pub long : length here ≡ length out
     long = ap length (g .buffer) ∙ length-over out (transcript (g .said)) (g .within)
 
     -- The run has ended.
-    pub ends : c .going ≡ false → Ran out (runFrom setting (length out) (seen s c₀)) (record { number = c .number; place = c .place; settled = c .settled; written = c .written }) here
+    pub ends : c .going ≡ false → Ran out whole-run (record { number = c .number; place = c .place; settled = c .settled; written = c .written }) here
     unfolding seen
     ends h =
-        let x : runFrom setting (length out) (seen s c₀) ≡ record { point = seen s c; said = g .said } = g .run ∙ steps-stay setting (length out) (g .left) record { point = seen s c; said = g .said } h in
+        let x : whole-run ≡ record { point = seen s (view m) c; said = g .said } = g .run ∙ steps-stay setting (length out) (g .left) record { point = seen s (view m) c; said = g .said } h in
         record {
           ended = ap (λ (p : Progress). p .point .going) x ∙ h;
           number = ap (λ (p : Progress). p .point .number) (sym x);
@@ -119,46 +176,52 @@ module _ (s out : List ℕ) (limit : ℕ) (c₀ : Cursor) where
           buffer = g .buffer ∙ ap (λ (p : Progress). over out (transcript (p .said))) (sym x);
         }
 
-    -- One step more.
-    module _ (on : c .going ≡ true) (m : Move) (t : Stepped s c (stepFrom (settingOf limit (c .machine)) (seen s c)) m) where
-      same : settingOf limit (c .machine) ≡ setting
-      same = λ j. record { chain = entries (g .chain j); maxRetry = g .maxRetry j; limit = limit }
-
+    -- One step more: the plan r, the machine v that it gives and the line l that is to be written.
+    module _ (on : c .going ≡ true) (k : ℕ) (count : k ≡ length (chainOf m₀)) (stage : Stage) (due : stage ≡ stageOf (view m)) (r : Plan)
+        (plan : Planned s limit k c (λ (st : Setting) (p : Point). stepBy st p stage) r) (v : Machine) (became : Becomes m (acts (chainOf m) (m .«max_retry») (r .act) (view m)) v)
+        (l : Line) (told : textOf l ≡ transcript (says (chainOf m₀) (r .say) (view m) (view v) (c .told))) where
       abbrev step : Step
-      step = stepFrom setting (seen s c)
+      step = stepFrom setting (seen s (view m) c)
 
-      told : stepFrom (settingOf limit (c .machine)) (seen s c) ≡ step
-      told = ap (λ (x : Setting). stepFrom x (seen s c)) same
+      abbrev next : Cursor
+      next = r .cursor
 
-      point : seen s (m .cursor) ≡ step .point
-      point = t .moved .point ∙ ap (λ (x : Step). x .point) told
+      machine : view v ≡ acts (chainOf m₀) (m₀ .«max_retry») (r .act) (view m)
+      machine = became .machine ∙ (λ j. acts (entries (g .chain j)) (g .maxRetry j) (r .act) (view m))
 
-      line : textOf (m .line) ≡ transcript (step .said)
-      line = t .line ∙ ap (λ (x : Step). transcript (x .said)) told
+      planned-step : step ≡ planned s setting (view m) c r
+      unfolding seen
+      planned-step = step-by setting (seen s (view m) c) stage due ∙ plan .step setting refl (sym count) (view m)
+
+      point : seen s (view v) next ≡ step .point
+      point = ap (λ (x : Model). seen s x next) machine ∙ sym (ap (λ (x : Step). x .point) planned-step)
+
+      line : textOf l ≡ transcript (step .said)
+      line = told ∙ ap (λ (x : Model). transcript (says (chainOf m₀) (r .say) (view m) x (c .told))) machine ∙ sym (ap (λ (x : Step). transcript (x .said)) planned-step)
 
       abbrev after : Progress
       after = recorded (length out) (g .said) step
 
       -- What is left to do falls.
-      pub falls : seen s (m .cursor) .going ≡ true → toDo setting (seen s (m .cursor)) < toDo setting (seen s c)
+      pub falls : seen s (view v) next .going ≡ true → toDo setting (seen s (view v) next) < toDo setting (seen s (view m) c)
       unfolding seen
       falls h =
-          let few : length (step .point .machine .left) ≤ 512 = omega (arith, left-few (m .cursor .machine) (t .moved .stands .whole), ap (λ (p : Point). length (p .machine .left)) point) in
-          let less : toDo setting (step .point) < toDo setting (seen s c) = step-less setting (seen s c) few (sym (ap (λ (p : Point). p .going) point) ∙ h) in
+          let few : length (step .point .machine .left) ≤ 512 = omega (arith, left-few v (became .whole), ap (λ (p : Point). length (p .machine .left)) point) in
+          let less : toDo setting (step .point) < toDo setting (seen s (view m) c) = step-less setting (seen s (view m) c) few (sym (ap (λ (p : Point). p .going) point) ∙ h) in
           omega (arith, less, ap (toDo setting) point)
 
-      run-next : (n : ℕ) → g .left ≡ suc n → runFrom setting (length out) (seen s c₀) ≡ steps setting (length out) n after
+      run-next : (n : ℕ) → g .left ≡ suc n → whole-run ≡ steps setting (length out) n after
       unfolding seen
-      run-next n e = g .run ∙ ap (λ (k : ℕ). steps setting (length out) k record { point = seen s c; said = g .said }) e ∙ steps-next setting (length out) n record { point = seen s c; said = g .said } on
+      run-next n e = g .run ∙ ap (λ (k : ℕ). steps setting (length out) k record { point = seen s (view m) c; said = g .said }) e ∙ steps-next setting (length out) n record { point = seen s (view m) c; said = g .said } on
 
       abbrev at : ℕ
-      at = m .cursor .written
+      at = next .written
 
       place : at ≡ length (transcript (g .said))
-      place = t .moved .written ∙ g .size
+      place = plan .written ∙ g .size
 
       abbrev text : List ℕ
-      text = textOf (m .line)
+      text = textOf l
 
       length-text : length text ≡ length (transcript (step .said))
       length-text = ap length line
@@ -172,61 +235,63 @@ module _ (s out : List ℕ) (limit : ℕ) (c₀ : Cursor) where
           ∙ written-over out (transcript (g .said)) (transcript (step .said)) h
           ∙ ap (over out) (sym (transcript-append (g .said) (step .said)))
 
-      wrote-at : (n : ℕ) → g .left ≡ suc n → (w : ℕ) → At w ≡ roomAfter here at text → (b : List ℕ) → b ≡ written here at text → Going b (wrote (m .cursor) (At w))
+      wrote-at : (n : ℕ) → g .left ≡ suc n → (w : ℕ) → At w ≡ roomAfter here at text → (b : List ℕ) → b ≡ written here at text → Going b v (wrote next (At w))
       unfolding seen
       wrote-at n e w r b p =
           let room = room-at here at text w r in
           let fit : length (transcript (g .said)) + length (transcript (step .said)) ≤ length out = omega (arith, room .1, long, place, length-text) in
-          let next : after ≡ record { point = seen s (m .cursor); said = g .said ++ step .said } = recorded-fits (length out) (g .said) step fit ∙ (λ j. record { point = sym point j; said = g .said ++ step .said }) in
+          let recorded-as : after ≡ record { point = seen s (view v) next; said = g .said ++ step .said } = recorded-fits (length out) (g .said) step fit ∙ (λ j. record { point = sym point j; said = g .said ++ step .said }) in
           record {
             said = g .said ++ step .said;
             left = n;
-            stands = record { whole = t .moved .stands .whole; within = t .moved .stands .within; lines = t .moved .stands .lines };
-            chain = t .moved .chain ∙ g .chain;
-            maxRetry = t .moved .maxRetry ∙ g .maxRetry;
+            whole = became .whole;
+            stands = record { within = plan .stands .within; lines = plan .stands .lines };
+            chain = became .chain ∙ g .chain;
+            maxRetry = became .maxRetry ∙ g .maxRetry;
             size = omega (arith, room .0, place, length-text, length-said);
             within = omega (arith, fit, length-said);
             buffer = p ∙ put fit;
             enough = λ h. omega (arith, falls h, g .enough on, e);
-            run = run-next n e ∙ ap (steps setting (length out) n) next;
+            run = run-next n e ∙ ap (steps setting (length out) n) recorded-as;
           }
 
-      wrote-full : (n : ℕ) → g .left ≡ suc n → Full ≡ roomAfter here at text → (b : List ℕ) → b ≡ written here at text → Going b (wrote (m .cursor) Full)
+      wrote-full : (n : ℕ) → g .left ≡ suc n → Full ≡ roomAfter here at text → (b : List ℕ) → b ≡ written here at text → Going b v (wrote next Full)
       unfolding seen
       wrote-full n e r b p =
           let short = room-full here at text r in
           let over-full : length out < length (transcript (g .said)) + length (transcript (step .said)) = omega (arith, short, long, place, length-text) in
-          let next : after ≡ record { point = stopped 8 0 (seen s (m .cursor)); said = g .said } = recorded-full (length out) (g .said) step over-full ∙ (λ j. record { point = stopped 8 0 (sym point j); said = g .said }) in
+          let recorded-as : after ≡ record { point = stopped 8 0 (seen s (view v) next); said = g .said } = recorded-full (length out) (g .said) step over-full ∙ (λ j. record { point = stopped 8 0 (sym point j); said = g .said }) in
           record {
             said = g .said;
             left = n;
-            stands = record { whole = t .moved .stands .whole; within = t .moved .stands .within; lines = t .moved .stands .lines };
-            chain = t .moved .chain ∙ g .chain;
-            maxRetry = t .moved .maxRetry ∙ g .maxRetry;
+            whole = became .whole;
+            stands = record { within = plan .stands .within; lines = plan .stands .lines };
+            chain = became .chain ∙ g .chain;
+            maxRetry = became .maxRetry ∙ g .maxRetry;
             size = place;
             within = g .within;
             buffer = p ∙ sym (unfitted here at text short .1) ∙ g .buffer;
             enough = λ h. never h;
-            run = run-next n e ∙ ap (steps setting (length out) n) next;
+            run = run-next n e ∙ ap (steps setting (length out) n) recorded-as;
           }
 
       some-left : (k l : ℕ) → k < l → (n : ℕ) × (l ≡ suc n)
       some-left k zero h = absurd (omega arith)
       some-left k (suc l) h = (l, refl)
 
-      goes : (r : Room) → r ≡ roomAfter here at text → (b : List ℕ) → b ≡ written here at text → Going b (wrote (m .cursor) r)
-      goes (At w) e b p = let n = some-left (toDo setting (seen s c)) (g .left) (g .enough on) in wrote-at (n .0) (n .1) w e b p
-      goes Full e b p = let n = some-left (toDo setting (seen s c)) (g .left) (g .enough on) in wrote-full (n .0) (n .1) e b p
+      goes : (r : Room) → r ≡ roomAfter here at text → (b : List ℕ) → b ≡ written here at text → Going b v (wrote next r)
+      goes (At w) e b p = let n = some-left (toDo setting (seen s (view m) c)) (g .left) (g .enough on) in wrote-at (n .0) (n .1) w e b p
+      goes Full e b p = let n = some-left (toDo setting (seen s (view m) c)) (g .left) (g .enough on) in wrote-full (n .0) (n .1) e b p
 
-      measure-falls : (r : Room) → measure s limit (c₀ .machine) (wrote (m .cursor) r) < measure s limit (c₀ .machine) c
+      measure-falls : (r : Room) → measure s limit m₀ v (wrote next r) < measure s limit m₀ m c
       unfolding measure seen
-      measure-falls (At w) = measure-by (c .going) (m .cursor .going) (toDo setting (seen s c)) (toDo setting (seen s (m .cursor))) on falls
-      measure-falls Full = measure-by (c .going) false (toDo setting (seen s c)) 0 on (λ e. never e)
+      measure-falls (At w) = measure-by (c .going) (next .going) (toDo setting (seen s (view m) c)) (toDo setting (seen s (view v) next)) on falls
+      measure-falls Full = measure-by (c .going) false (toDo setting (seen s (view m) c)) 0 on (λ e. never e)
 
-      -- The cursor v that comes of it.
-      module _ (r : Room) (v : Cursor) (same-cursor : v ≡ wrote (m .cursor) r) where
-        pub goes-on : r ≡ roomAfter here at text → (b : List ℕ) → b ≡ written here at text → Going b v
-        goes-on e b p = subst (Going b) (sym same-cursor) (goes r e b p)
+      -- The cursor that comes of it.
+      module _ (room : Room) (c₁ : Cursor) (same-cursor : c₁ ≡ wrote next room) where
+        pub goes-on : room ≡ roomAfter here at text → (b : List ℕ) → b ≡ written here at text → Going b v c₁
+        goes-on e b p = subst (Going b v) (sym same-cursor) (goes room e b p)
 
-        pub comes-down : measure s limit (c₀ .machine) v < measure s limit (c₀ .machine) c
-        comes-down = omega (arith, measure-falls r, ap (measure s limit (c₀ .machine)) same-cursor)
+        pub comes-down : measure s limit m₀ v c₁ < measure s limit m₀ m c
+        comes-down = omega (arith, measure-falls room, ap (measure s limit m₀ v) same-cursor)

@@ -2,15 +2,24 @@
 ghost use mathlib.Core.Path.{_≡_};
 ghost use mathlib.Core.List.{List};
 ghost use Prim.Native.Nat.{ℕ, _<_, _≤_};
-ghost use lib.ListN.{length, drop};
+ghost use lib.Dec.{leb, ltb};
+ghost use lib.ListN.{length};
+ghost use Rattle.model.specs.Vocabulary.{pick};
+ghost use Rattle.components.specs.Chain.{idAt};
+ghost use Rattle.chain.specs.Tables.{entries};
+ghost use Rattle.machine.specs.Status.{statusAt};
+ghost use Rattle.machine.specs.View.{statusesOf};
+ghost use Rattle.printed.specs.Transcript.{statusLine};
 ghost use Rattle.text.specs.Lines.{textOf};
-ghost use Rattle.settling.specs.Settle.{enqueue};
-ghost use Rattle.settling.specs.View.{view, Whole};
-ghost use Rattle.driver.specs.Run.{stopped, onward, silent, answered, answering, turned, handed, handing, taking, finishing, telling, machineIs, workIs, reading, stageOf, stepFrom, transcript};
-ghost use Rattle.driver.specs.Seen.{seen, settingOf, Stands, Moved, Stepped, wrote, runOn, Ran};
-ghost use Rattle.reader.specs.Read.{rowsIn};
+ghost use Rattle.settling.specs.View.{view, chainOf, Whole, Becomes};
+ghost use Rattle.driver.specs.Run.{Setting, Point, silent, answering, handed, reading, stageOf, stepBy, transcript};
+ghost use Rattle.driver.specs.Seen.{runOn, Ran};
+ghost use Rattle.driver.specs.Plans.{atStart, stays, stops, passes, answers, answersBy, begins, readsBy, tellsNext, takes, finishes, moving, tellingNow, acts, spoken, wrote, Stands, Planned};
+use chain::Chain;
 use lines::Row;
+use machine::Rot;
 use model::Event;
+use model::State;
 use settling::Machine;
 use settling::Reply;
 use settling::Waiting;
@@ -25,10 +34,9 @@ pub enum Stage {
     Rests,
 }
 
-// Where a run stands: the machine; the place of the next line in the sheet, and its number; the number of the E line at
-// work, or 0; events settled, T lines told, bytes written; and how the run ended.
+// Where a run stands, beside its machine: the place of the next line in the sheet, and its number; the number of the E line
+// at work, or 0; events settled, T lines told, bytes written; and how the run ended.
 pub struct Cursor {
-    pub machine: Machine,
     pub at: usize,
     pub line: usize,
     pub work: usize,
@@ -40,10 +48,27 @@ pub struct Cursor {
     pub written: usize,
 }
 
-// A cursor, and the line that it has to write; an empty one is none.
-pub struct Move {
+// What a step does to the machine.
+pub enum Act {
+    Stay,
+    Queue(Event),
+    Give(Reply),
+    Turn,
+}
+
+// The line that a step writes: none, of the effect that it hands out, of the state before it, of the next component.
+pub enum Say {
+    Silence,
+    EffectLine,
+    StateLine,
+    StatusLine,
+}
+
+// A step of a run: the cursor after it, what it does to the machine, and the line that it writes.
+pub struct Plan {
     pub cursor: Cursor,
-    pub line: Line,
+    pub act: Act,
+    pub say: Say,
 }
 
 // How a run ended: its number and place, events settled, bytes written.
@@ -75,30 +100,31 @@ fn due(m: Machine) -> Stage
     }
 }
 
-fn silent(c: Cursor) -> Move
-    ensures { λ r. ⌜ ((s : List ℕ) → Stands s c → Stepped s c (silent (seen s c)) r) ⌝ }
+fn stay(c: Cursor) -> Plan
+    ensures { λ r. ⌜ r ≡ stays c ⌝ }
 {
-    Move {
+    Plan {
         cursor: c,
-        line: text::empty(),
+        act: Act::Stay,
+        say: Say::Silence,
     }
 }
 
 // The run ends here.
-fn stop(c: Cursor, number: u64, place: u64) -> Cursor
-    ensures { λ r. ⌜ ((s : List ℕ) → Stands s c → Moved s c (stopped number place (seen s c)) r) ⌝ }
+fn stop(c: Cursor, number: u64, place: u64) -> Plan
+    ensures { λ r. ⌜ r ≡ stops number place c ⌝ }
 {
     let mut v = c;
     v.going = false;
     v.number = number;
     v.place = place;
-    v
+    stay(v)
 }
 
 // One line further.
 fn pass(c: Cursor, after: usize) -> Cursor
     requires { ⌜ c .line < 18446744073709551615 ⌝ }
-    ensures { λ r. ⌜ ((s : List ℕ) → Stands s c → c .at < after → after ≤ length s → Moved s c (onward (rowsIn (drop after s)) (seen s c)) r) ⌝ }
+    ensures { λ r. ⌜ r ≡ passes after c ⌝ }
 {
     let line = c.line;
     let mut v = c;
@@ -108,21 +134,34 @@ fn pass(c: Cursor, after: usize) -> Cursor
 }
 
 // The waiting effect is answered.
-fn answer(c: Cursor, reply: Reply) -> Cursor
-    requires { ⌜ Whole (c .machine) ⌝ }
-    ensures { λ r. ⌜ ((s : List ℕ) → Stands s c → Moved s c (answered reply (seen s c)) r) ⌝ }
+fn answer(c: Cursor, reply: Reply) -> Plan
+    ensures { λ r. ⌜ r ≡ answers reply c ⌝ }
 {
-    let machine = c.machine;
-    let next = settling::replied(machine, reply);
-    let mut v = c;
-    v.machine = next;
-    v
+    Plan {
+        cursor: c,
+        act: Act::Give(reply),
+        say: Say::Silence,
+    }
 }
 
-// An effect waits for the next line; if that isn't an R line, the reply is ok.
-fn answer_by_line(sheet: &[u8], c: Cursor) -> Cursor
+// An effect waits for this line; if it isn't an R line, the reply is ok.
+fn answer_row(c: Cursor, row: Row, after: usize) -> Plan
+    requires { ⌜ c .line < 18446744073709551615 ⌝ }
+    ensures { λ r. ⌜ r ≡ answersBy c after row ⌝ }
+{
+    match row {
+        Row::Retry(_) => answer(c, Reply::Done),
+        Row::Card(_) => answer(c, Reply::Done),
+        Row::Begin(_) => answer(c, Reply::Done),
+        Row::Answer(reply) => answer(pass(c, after), reply),
+        Row::Bad => answer(c, Reply::Done),
+    }
+}
+
+// An effect waits for the next line.
+fn answer_by_line(sheet: &[u8], c: Cursor) -> Plan
     requires { ⌜ Stands (now sheet) c ⌝ }
-    ensures { λ r. ⌜ Moved (now (sheet .entry)) c (answering (seen (now (sheet .entry)) c) (seen (now (sheet .entry)) c .rows)) r ⌝ }
+    ensures { λ r. ⌜ ((limit n : ℕ) → Planned (now (sheet .entry)) limit n c (λ (st : Setting) (p : Point). silent (answering p (p .rows))) r) ⌝ }
 {
     let at = c.at;
     if sheet.len() <= at {
@@ -130,25 +169,141 @@ fn answer_by_line(sheet: &[u8], c: Cursor) -> Cursor
     }
     let next = reader::next_line(sheet, at);
     let row = next.row;
-    match row {
-        Row::Retry(_) => answer(c, Reply::Done),
-        Row::Card(_) => answer(c, Reply::Done),
-        Row::Begin(_) => answer(c, Reply::Done),
-        Row::Answer(reply) => answer(pass(c, next.after), reply),
-        Row::Bad => answer(c, Reply::Done),
+    answer_row(c, row, next.after)
+}
+
+// The front event is taken, unless the limit is reached.
+fn take(c: Cursor, limit: u64) -> Plan
+    ensures { λ r. ⌜ r ≡ pick (leb limit (c .settled)) (stops 9 0 c) (takes c) ⌝ }
+{
+    let settled = c.settled;
+    if limit <= settled {
+        return stop(c, 9, 0);
+    }
+    let mut v = c;
+    v.settled = settled + 1;
+    Plan {
+        cursor: v,
+        act: Act::Turn,
+        say: Say::Silence,
     }
 }
 
-// A turn of the machine.
-fn turn(c: Cursor) -> Cursor
-    requires { ⌜ Whole (c .machine) ⌝ }
-    ensures { λ r. ⌜ ((s : List ℕ) (limit : ℕ) → Stands s c → Moved s c (turned (settingOf limit (c .machine)) (seen s c)) r) ⌝ }
+// The E line is done: an S line.
+fn finish(c: Cursor) -> Plan
+    ensures { λ r. ⌜ r ≡ finishes c ⌝ }
 {
-    let machine = c.machine;
-    let next = settling::turn(machine);
     let mut v = c;
-    v.machine = next;
-    v
+    v.work = 0;
+    Plan {
+        cursor: v,
+        act: Act::Turn,
+        say: Say::StateLine,
+    }
+}
+
+// At the end of the sheet, a T line for each of n components in chain order.
+fn tell(c: Cursor, n: usize) -> Plan
+    ensures { λ r. ⌜ r ≡ pick (ltb (c .told) n) (tellsNext c) (stops 0 0 c) ⌝ }
+{
+    let told = c.told;
+    if n <= told {
+        return stop(c, 0, 0);
+    }
+    let mut v = c;
+    v.told = told + 1;
+    Plan {
+        cursor: v,
+        act: Act::Stay,
+        say: Say::StatusLine,
+    }
+}
+
+// The event of an E line is queued; `line` is the number of that line.
+fn begin(c: Cursor, event: Event, line: usize) -> Plan
+    ensures { λ r. ⌜ r ≡ begins event line c ⌝ }
+{
+    let mut v = c;
+    v.work = line;
+    Plan {
+        cursor: v,
+        act: Act::Queue(event),
+        say: Say::Silence,
+    }
+}
+
+// This line, with no event at work.
+fn read_row(c: Cursor, row: Row, after: usize) -> Plan
+    requires { ⌜ c .line < 18446744073709551615 ⌝ }
+    ensures { λ r. ⌜ r ≡ readsBy c after row ⌝ }
+{
+    match row {
+        Row::Retry(_) => stay(pass(c, after)),
+        Row::Card(_) => stay(pass(c, after)),
+        Row::Begin(event) => begin(pass(c, after), event, c.line),
+        Row::Answer(_) => stop(c, 7, c.line as u64),
+        Row::Bad => stay(pass(c, after)),
+    }
+}
+
+// The next line, with no event at work; n is the number of components.
+fn read(sheet: &[u8], n: usize, c: Cursor) -> Plan
+    requires { ⌜ Stands (now sheet) c ⌝ }
+    ensures { λ r. ⌜ ((limit : ℕ) → Planned (now (sheet .entry)) limit n c (λ (st : Setting) (p : Point). reading st p (p .rows)) r) ⌝ }
+{
+    let at = c.at;
+    if sheet.len() <= at {
+        return tell(c, n);
+    }
+    let next = reader::next_line(sheet, at);
+    let row = next.row;
+    read_row(c, row, next.after)
+}
+
+// One step of a run, by what is due.
+fn next_step(sheet: &[u8], limit: u64, n: usize, stage: Stage, c: Cursor) -> Plan
+    requires { ⌜ Stands (now sheet) c ⌝ }
+    ensures { λ r. ⌜ Planned (now (sheet .entry)) limit n c (λ (st : Setting) (p : Point). stepBy st p stage) r ⌝ }
+{
+    match stage {
+        Stage::Waits => answer_by_line(sheet, c),
+        Stage::HandsOut => Plan {
+            cursor: c,
+            act: Act::Turn,
+            say: Say::EffectLine,
+        },
+        Stage::Takes => take(c, limit),
+        Stage::Rests => {
+            if c.work == 0 {
+                return read(sheet, n, c);
+            }
+            finish(c)
+        }
+    }
+}
+
+// Does it do anything to the machine?
+fn touches(act: Act) -> bool
+    ensures { λ r. ⌜ r ≡ moving act ⌝ }
+{
+    match act {
+        Act::Stay => false,
+        Act::Queue(_) => true,
+        Act::Give(_) => true,
+        Act::Turn => true,
+    }
+}
+
+fn acted(m: Machine, act: Act) -> Machine
+    requires { ⌜ Whole m ⌝ }
+    ensures { λ r. ⌜ Becomes m (acts (chainOf m) (m .«max_retry») act (view m)) r ⌝ }
+{
+    match act {
+        Act::Stay => m,
+        Act::Queue(event) => settling::enqueue(m, event),
+        Act::Give(reply) => settling::replied(m, reply),
+        Act::Turn => settling::turn(m),
+    }
 }
 
 // An effect that is handed out has an X line.
@@ -161,119 +316,51 @@ fn handed_line(waiting: Waiting) -> Line
     }
 }
 
-// The next effect of the batch.
-fn hand_out(c: Cursor) -> Move
-    requires { ⌜ Whole (c .machine) ⌝ }
-    ensures { λ r. ⌜ ((s : List ℕ) (limit : ℕ) → Stands s c → Stepped s c (handing (settingOf limit (c .machine)) (seen s c)) r) ⌝ }
+// The line of a step that writes no T line: of the state before it, or of the effect that waits after it.
+fn said_line(say: Say, state: State, waiting: Waiting) -> Line
+    ensures { λ r. ⌜ textOf r ≡ transcript (spoken say state waiting) ⌝ }
 {
-    let v = turn(c);
-    let machine = v.machine;
-    let waiting = machine.waiting;
-    Move {
-        cursor: v,
-        line: handed_line(waiting),
+    match say {
+        Say::Silence => text::empty(),
+        Say::EffectLine => handed_line(waiting),
+        Say::StateLine => printed::state_line(state),
+        Say::StatusLine => text::empty(),
     }
 }
 
-// The front event is taken, unless the limit is reached.
-fn take(c: Cursor, limit: u64) -> Cursor
-    requires { ⌜ Whole (c .machine) ⌝ }
-    ensures { λ r. ⌜ ((s : List ℕ) → Stands s c → Moved s c (taking (settingOf limit (c .machine)) (seen s c)) r) ⌝ }
+fn tells(say: Say) -> bool
+    ensures { λ r. ⌜ r ≡ tellingNow say ⌝ }
 {
-    let settled = c.settled;
-    if limit <= settled {
-        return stop(c, 9, 0);
-    }
-    let mut v = turn(c);
-    v.settled = settled + 1;
-    v
-}
-
-// The E line is done: an S line.
-fn finish(c: Cursor) -> Move
-    requires { ⌜ Whole (c .machine) ⌝ }
-    ensures { λ r. ⌜ ((s : List ℕ) (limit : ℕ) → Stands s c → Stepped s c (finishing (settingOf limit (c .machine)) (seen s c)) r) ⌝ }
-{
-    let machine = c.machine;
-    let state = machine.state;
-    let mut v = turn(c);
-    v.work = 0;
-    Move {
-        cursor: v,
-        line: printed::state_line(state),
+    match say {
+        Say::Silence => false,
+        Say::EffectLine => false,
+        Say::StateLine => false,
+        Say::StatusLine => true,
     }
 }
 
-// At the end of the sheet, a T line for each component in chain order.
-fn tell(c: Cursor) -> Move
-    requires { ⌜ Whole (c .machine) ⌝ }
-    ensures { λ r. ⌜ ((s : List ℕ) (limit : ℕ) → Stands s c → Stepped s c (telling (settingOf limit (c .machine)) (seen s c)) r) ⌝ }
+// The T line of the component at position p, of n.
+fn told_line(chain: Chain, rot: Rot, n: usize, p: usize) -> Line
+    requires { ⌜ (n ≡ length (entries chain)) × (p < n) ⌝ }
+    ensures { λ r. ⌜ textOf r ≡ statusLine (idAt (entries chain) p) (statusAt (statusesOf n rot) p) ⌝ }
 {
-    let machine = c.machine;
-    let chain = machine.chain;
-    let p = c.told;
-    if chain.count() <= p {
-        return silent(stop(c, 0, 0));
-    }
-    let line = printed::status_line(chain.id_at(p), sm::status(machine, p));
-    let mut v = c;
-    v.told = p + 1;
-    Move {
-        cursor: v,
-        line: line,
-    }
+    printed::status_line(chain.id_at(p), machine::status_at(rot, n, p))
 }
 
-// The event of an E line is queued; `line` is the number of that line.
-fn begin(c: Cursor, event: Event, line: usize) -> Cursor
-    requires { ⌜ Whole (c .machine) ⌝ }
-    ensures { λ r. ⌜ ((s : List ℕ) → Stands s c → Moved s c (workIs line (machineIs (enqueue event (seen s c .machine)) (seen s c))) r) ⌝ }
+// A run before its first line.
+fn start() -> Cursor
+    ensures { λ r. ⌜ r ≡ atStart ⌝ }
 {
-    let machine = c.machine;
-    let next = settling::enqueue(machine, event);
-    let mut v = c;
-    v.machine = next;
-    v.work = line;
-    v
-}
-
-// The next line, with no event at work.
-fn read(sheet: &[u8], c: Cursor) -> Move
-    requires { ⌜ Stands (now sheet) c ⌝ }
-    ensures { λ r. ⌜ ((limit : ℕ) → Stepped (now (sheet .entry)) c (reading (settingOf limit (c .machine)) (seen (now (sheet .entry)) c) (seen (now (sheet .entry)) c .rows)) r) ⌝ }
-{
-    let at = c.at;
-    if sheet.len() <= at {
-        return tell(c);
-    }
-    let next = reader::next_line(sheet, at);
-    let row = next.row;
-    match row {
-        Row::Retry(_) => silent(pass(c, next.after)),
-        Row::Card(_) => silent(pass(c, next.after)),
-        Row::Begin(event) => silent(begin(pass(c, next.after), event, c.line)),
-        Row::Answer(_) => silent(stop(c, 7, c.line as u64)),
-        Row::Bad => silent(pass(c, next.after)),
-    }
-}
-
-// One step of a run: what is due, and the line that it writes.
-fn step(sheet: &[u8], limit: u64, c: Cursor) -> Move
-    requires { ⌜ Stands (now sheet) c ⌝ }
-    ensures { λ r. ⌜ Stepped (now (sheet .entry)) c (stepFrom (settingOf limit (c .machine)) (seen (now (sheet .entry)) c)) r ⌝ }
-{
-    let machine = c.machine;
-    let stage = due(machine);
-    match stage {
-        Stage::Waits => silent(answer_by_line(sheet, c)),
-        Stage::HandsOut => hand_out(c),
-        Stage::Takes => silent(take(c, limit)),
-        Stage::Rests => {
-            if c.work == 0 {
-                return read(sheet, c);
-            }
-            finish(c)
-        }
+    Cursor {
+        at: 0,
+        line: 1,
+        work: 0,
+        settled: 0,
+        told: 0,
+        going: true,
+        number: 0,
+        place: 0,
+        written: 0,
     }
 }
 
@@ -301,22 +388,26 @@ pub fn drive(sheet: &[u8], out: &mut [u8], limit: u64, machine: Machine) -> End
     requires { ⌜ Whole machine ⌝ }
     ensures { λ r. ⌜ Ran (now (out .entry)) (runOn (now (sheet .entry)) (length (now (out .entry))) limit machine) r (now (out .exit)) ⌝ }
 {
-    let mut c = Cursor {
-        machine: machine,
-        at: 0,
-        line: 1,
-        work: 0,
-        settled: 0,
-        told: 0,
-        going: true,
-        number: 0,
-        place: 0,
-        written: 0,
-    };
+    let chain = machine.chain;
+    let n = chain.count();
+    let mut m = machine;
+    let mut c = start();
     while c.going {
-        let m = step(sheet, limit, c);
-        let line = m.line;
-        let next = m.cursor;
+        let stage = due(m);
+        let step = next_step(sheet, limit, n, stage, c);
+        let act = step.act;
+        let say = step.say;
+        let state = m.state;
+        if touches(act) {
+            m = acted(m, act);
+        }
+        let waiting = m.waiting;
+        let mut line = said_line(say, state, waiting);
+        if tells(say) {
+            let rot = m.rot;
+            line = told_line(chain, rot, n, c.told);
+        }
+        let next = step.cursor;
         let at = next.written;
         let room = text::append(out, at, line);
         c = record_line(next, room);
