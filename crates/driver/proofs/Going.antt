@@ -4,7 +4,7 @@ use mathlib.Core.Bool.{Bool, true, false}
 use mathlib.Core.List.{List, [], _∷_, _++_, append-assoc, append-nil}
 use Prim.Native.Nat.{ℕ, zero, suc, _+_, _≤_, _<_}
 use native.Mathlib.Omega.{arith}
-use borrow.Author.Tests.{le-leb, lt-leb}
+use borrow.Author.Tests.{le-leb, lt-leb, ltb-true}
 use lib.Dec.{leb}
 use lib.ListN.{length, take, drop, length-append, length-take, length-drop, length-map}
 use Rattle.model.specs.Vocabulary.{pick}
@@ -19,23 +19,27 @@ use Rattle.text.specs.Lines.{textOf, written, roomAfter, over}
 use Rattle.text.proofs.Laws.{unfitted}
 use Rattle.text.proofs.Over.{length-over, written-over, room-at, room-full}
 use Rattle.settling.specs.declared.Machine.{Machine}
-use Rattle.settling.specs.Settle.{Model}
+use Rattle.settling.specs.Settle.{Model, queueIs, failedIs}
 use Rattle.settling.specs.View.{view, chainOf, Whole, Becomes}
 use Rattle.components.specs.Chain.{idAt}
 use Rattle.machine.specs.Status.{statusAt}
 use Rattle.machine.specs.View.{statusesOf}
 use Rattle.printed.specs.Transcript.{statusLine}
-use Rattle.settling.proofs.Views.{never}
+use Rattle.settling.proofs.Views.{never, pends, becomes-as, becomes-then, becomes-same, pends-becomes}
+use Rattle.pending.specs.declared.Pending.{Pending}
+use Rattle.pending.specs.Queue.{events, hasRoom, atBack}
+use Rattle.model.specs.declared.Event.{Event}
+use Rattle.model.proofs.Pick.{pickP}
 use Rattle.driver.specs.declared.Cursor.{Cursor}
 use Rattle.driver.specs.declared.Plan.{Plan}
 use Rattle.driver.specs.declared.Stage.{Stage}
 use Rattle.driver.specs.declared.Act.{Act}
-use Rattle.driver.specs.declared.Act.the-variants.{Stay, Queue, Give, Turn}
+use Rattle.driver.specs.declared.Act.the-variants.{Stay, Rest, Queue, Give, Turn}
 use Rattle.driver.specs.declared.Say.{Say}
 use Rattle.driver.specs.declared.Say.the-variants.{Silence, EffectLine, StateLine, StatusLine}
 use Rattle.driver.specs.Run.{Entry, Told, entryLine, transcript, Setting, Point, Step, Progress, stopped, stageOf, stepBy, stepFrom, recorded, steps, toDo, runFrom}
 use Rattle.driver.specs.Seen.{seen, settingOf, runOn, Ran}
-use Rattle.driver.specs.Plans.{atStart, moving, acts, tellingNow, spoken, says, Tells, wrote, Stands, planned, Planned}
+use Rattle.driver.specs.Plans.{atStart, touching, actedBy, queuedBy, failedBy, marked, acts, tellingNow, spoken, says, Tells, wrote, Stands, planned, Planned}
 use Rattle.driver.proofs.Moves.{transcript-one, step-by}
 use Rattle.driver.proofs.Less.{step-less}
 
@@ -97,11 +101,31 @@ pub becomes-is : {m v r : Machine} {x : Model} → Becomes m x r → v ≡ r →
 becomes-is {m} {v} {r} {x} b e = subst (Becomes m x) (sym e) b
 
 -- A machine that is not touched.
-pub kept : (m : Machine) (act : Act) → moving act ≡ false → Whole m → Becomes m (acts (chainOf m) (m .«max_retry») act (view m)) m
-kept m Stay e w = record { machine = refl; chain = refl; maxRetry = refl; whole = w }
-kept m (Queue x) e w = never (sym e)
+pub kept : (m : Machine) (act : Act) → touching act ≡ false → Whole m → Becomes m (actedBy (chainOf m) (m .«max_retry») act (view m)) m
+kept m Stay e w = becomes-same m w
+kept m Rest e w = becomes-same m w
+kept m (Queue x) e w = becomes-same m w
 kept m (Give a) e w = never (sym e)
 kept m Turn e w = never (sym e)
+
+back-few : (e : Event) (q : List Event) → length q ≤ 8 → length (atBack e q) ≤ 8
+back-few e q h = pickP (λ (l : List Event). length l ≤ 8) (hasRoom q) (λ t. omega (arith, length-append q (e ∷ []), ltb-true (length q) 8 t)) (λ t. h)
+
+queued-few : (act : Act) (q : List Event) → length q ≤ 8 → length (queuedBy act q) ≤ 8
+queued-few Stay q h = h
+queued-few Rest q h = h
+queued-few (Queue e) q h = back-few e q h
+queued-few (Give a) q h = h
+queued-few Turn q h = h
+
+-- And then its queue and its mark of failure.
+pub marks : {m u : Machine} (act : Act) → Becomes m (actedBy (chainOf m) (m .«max_retry») act (view m)) u → (p : Pending) → events p ≡ queuedBy act (events (u .pending)) → (b : Bool) → b ≡ failedBy act (u .failed)
+    → Becomes m (acts (chainOf m) (m .«max_retry») act (view m)) (pends p b u)
+unfolding view
+marks {m} {u} act h p e b f =
+    becomes-then (marked act) h
+    (becomes-as (pends-becomes u (h .whole) p b (queuedBy act (events (u .pending))) e (queued-few act (events (u .pending)) (h .whole .few)))
+    (ap (λ (k : Bool). failedIs k (queueIs (queuedBy act (events (u .pending))) (view u))) f))
 
 -- There is a component for a T line.
 pub tells-one : (say : Say) (p n : ℕ) → tellingNow say ≡ true → Tells say p n → p < n
@@ -178,7 +202,7 @@ module _ (s out : List ℕ) (limit : ℕ) (m₀ : Machine) where
 
     -- One step more: the plan r, the machine v that it gives and the line l that is to be written.
     module _ (on : c .going ≡ true) (k : ℕ) (count : k ≡ length (chainOf m₀)) (stage : Stage) (due : stage ≡ stageOf (view m)) (r : Plan)
-        (plan : Planned s limit k c (λ (st : Setting) (p : Point). stepBy st p stage) r) (v : Machine) (became : Becomes m (acts (chainOf m) (m .«max_retry») (r .act) (view m)) v)
+        (plan : Planned s limit k c stage (λ (st : Setting) (p : Point). stepBy st p stage) r) (v : Machine) (became : Becomes m (acts (chainOf m) (m .«max_retry») (r .act) (view m)) v)
         (l : Line) (told : textOf l ≡ transcript (says (chainOf m₀) (r .say) (view m) (view v) (c .told))) where
       abbrev step : Step
       step = stepFrom setting (seen s (view m) c)
@@ -191,7 +215,7 @@ module _ (s out : List ℕ) (limit : ℕ) (m₀ : Machine) where
 
       planned-step : step ≡ planned s setting (view m) c r
       unfolding seen
-      planned-step = step-by setting (seen s (view m) c) stage due ∙ plan .step setting refl (sym count) (view m)
+      planned-step = step-by setting (seen s (view m) c) stage due ∙ plan .step setting refl (sym count) (view m) (sym due)
 
       point : seen s (view v) next ≡ step .point
       point = ap (λ (x : Model). seen s x next) machine ∙ sym (ap (λ (x : Step). x .point) planned-step)

@@ -11,20 +11,22 @@ use Rattle.components.specs.Chain.{idAt}
 use Rattle.machine.specs.Status.{statusAt}
 use Rattle.text.specs.declared.Room.{Room}
 use Rattle.text.specs.declared.Room.the-variants.{At, Full}
+use Rattle.pending.specs.Queue.{atBack}
 use Rattle.settling.specs.declared.Reply.{Reply}
 use Rattle.settling.specs.declared.Reply.the-variants.{Done}
 use Rattle.settling.specs.declared.Waiting.{Waiting}
 use Rattle.settling.specs.declared.Waiting.the-variants.{Nothing}
-use Rattle.settling.specs.Settle.{Model, waitingIs, replied, enqueue, turnOf}
+use Rattle.settling.specs.Settle.{Model, waitingIs, queueIs, failedIs, replied, turnOf}
 use Rattle.lines.specs.declared.Row.{Row}
 use Rattle.lines.specs.declared.Row.the-variants.{Retry, Card, Begin, Answer, Bad}
 use Rattle.driver.specs.declared.Cursor.{Cursor}
+use Rattle.driver.specs.declared.Stage.{Stage}
 use Rattle.driver.specs.declared.Act.{Act}
-use Rattle.driver.specs.declared.Act.the-variants.{Stay, Queue, Give, Turn}
+use Rattle.driver.specs.declared.Act.the-variants.{Stay, Rest, Queue, Give, Turn}
 use Rattle.driver.specs.declared.Say.{Say}
 use Rattle.driver.specs.declared.Say.the-variants.{Silence, EffectLine, StateLine, StatusLine}
 use Rattle.driver.specs.declared.Plan.{Plan}
-use Rattle.driver.specs.Run.{Entry, Settled·in, Told, Setting, Point, Step, handed}
+use Rattle.driver.specs.Run.{Entry, Settled·in, Told, Setting, Point, Step, handed, stageOf}
 use Rattle.driver.specs.Seen.{seen}
 
 -- ---- Cursors
@@ -65,7 +67,7 @@ abbrev pub takes : Cursor → Plan
 takes c = record { cursor = record { at = c .at; line = c .line; work = c .work; settled = c .settled + 1; told = c .told; going = c .going; number = c .number; place = c .place; written = c .written }; act = Turn; say = Silence }
 
 abbrev pub finishes : Cursor → Plan
-finishes c = record { cursor = record { at = c .at; line = c .line; work = 0; settled = c .settled; told = c .told; going = c .going; number = c .number; place = c .place; written = c .written }; act = Turn; say = StateLine }
+finishes c = record { cursor = record { at = c .at; line = c .line; work = 0; settled = c .settled; told = c .told; going = c .going; number = c .number; place = c .place; written = c .written }; act = Rest; say = StateLine }
 
 abbrev pub tellsNext : Cursor → Plan
 tellsNext c = record { cursor = record { at = c .at; line = c .line; work = c .work; settled = c .settled; told = c .told + 1; going = c .going; number = c .number; place = c .place; written = c .written }; act = Stay; say = StatusLine }
@@ -82,17 +84,40 @@ readsBy c after Bad = stays (passes after c)
 
 -- ---- What a plan does to the machine and writes
 
-abbrev pub moving : Act → Bool
-moving Stay = false
-moving (Queue e) = true
-moving (Give a) = true
-moving Turn = true
+-- More changes than the queue and the mark of failure.
+abbrev pub touching : Act → Bool
+touching Stay = false
+touching Rest = false
+touching (Queue e) = false
+touching (Give a) = true
+touching Turn = true
+
+abbrev pub actedBy : List Component → ℕ → Act → Model → Model
+actedBy ch max Stay x = x
+actedBy ch max Rest x = x
+actedBy ch max (Queue e) x = x
+actedBy ch max (Give a) x = replied a (waitingIs Nothing x)
+actedBy ch max Turn x = turnOf ch max x
+
+abbrev pub queuedBy : Act → List Event → List Event
+queuedBy Stay q = q
+queuedBy Rest q = q
+queuedBy (Queue e) q = atBack e q
+queuedBy (Give a) q = q
+queuedBy Turn q = q
+
+abbrev pub failedBy : Act → Bool → Bool
+failedBy Stay b = b
+failedBy Rest b = false
+failedBy (Queue e) b = b
+failedBy (Give a) b = b
+failedBy Turn b = b
+
+abbrev pub marked : Act → Model → Model
+marked a x = failedIs (failedBy a (x .failed)) (queueIs (queuedBy a (x .queue)) x)
 
 abbrev pub acts : List Component → ℕ → Act → Model → Model
-acts ch max Stay x = x
-acts ch max (Queue e) x = enqueue e x
-acts ch max (Give a) x = replied a (waitingIs Nothing x)
-acts ch max Turn x = turnOf ch max x
+acts ch max a x = marked a (actedBy ch max a x)
 
 abbrev pub tellingNow : Say → Bool
 tellingNow Silence = false
@@ -136,9 +161,9 @@ planned s st x c r =
       said = says (st .chain) (r .say) x (acts (st .chain) (st .maxRetry) (r .act) x) (c .told);
     }
 
--- With any machine for n components, r is the step f.
-pub record Planned (s : List ℕ) (limit n : ℕ) (c : Cursor) (f : Setting → Point → Step) (r : Plan) : Type 0 where
+-- With any machine for n components at the stage g, r is the step f.
+pub record Planned (s : List ℕ) (limit n : ℕ) (c : Cursor) (g : Stage) (f : Setting → Point → Step) (r : Plan) : Type 0 where
   pub stands : Stands s (r .cursor)
   pub written : r .cursor .written ≡ c .written
   pub tells : Tells (r .say) (c .told) n
-  pub step : (st : Setting) → st .limit ≡ limit → length (st .chain) ≡ n → (x : Model) → f st (seen s x c) ≡ planned s st x c r
+  pub step : (st : Setting) → st .limit ≡ limit → length (st .chain) ≡ n → (x : Model) → stageOf x ≡ g → f st (seen s x c) ≡ planned s st x c r

@@ -10,16 +10,18 @@ ghost use Rattle.chain.specs.Tables.{entries};
 ghost use Rattle.machine.specs.Status.{statusAt};
 ghost use Rattle.machine.specs.View.{statusesOf};
 ghost use Rattle.printed.specs.Transcript.{statusLine};
+ghost use Rattle.pending.specs.Queue.{events};
 ghost use Rattle.text.specs.Lines.{textOf};
 ghost use Rattle.settling.specs.View.{view, chainOf, Whole, Becomes};
 ghost use Rattle.driver.specs.Run.{Setting, Point, silent, answering, handed, reading, stageOf, stepBy, transcript};
 ghost use Rattle.driver.specs.Seen.{runOn, Ran};
-ghost use Rattle.driver.specs.Plans.{atStart, stays, stops, passes, answers, answersBy, begins, readsBy, tellsNext, takes, finishes, moving, tellingNow, acts, spoken, wrote, Stands, Planned};
+ghost use Rattle.driver.specs.Plans.{atStart, stays, stops, passes, answers, answersBy, begins, readsBy, tellsNext, takes, finishes, touching, actedBy, queuedBy, failedBy, tellingNow, spoken, wrote, Stands, Planned};
 use chain::Chain;
 use lines::Row;
 use machine::Rot;
 use model::Event;
 use model::State;
+use pending::Pending;
 use settling::Machine;
 use settling::Reply;
 use settling::Waiting;
@@ -48,9 +50,11 @@ pub struct Cursor {
     pub written: usize,
 }
 
-// What a step does to the machine.
+// What a step does to the machine: nothing, the dispatch has ended, an event is queued, the waiting effect is answered, a
+// turn.
 pub enum Act {
     Stay,
+    Rest,
     Queue(Event),
     Give(Reply),
     Turn,
@@ -161,7 +165,7 @@ fn answer_row(c: Cursor, row: Row, after: usize) -> Plan
 // An effect waits for the next line.
 fn answer_by_line(sheet: &[u8], c: Cursor) -> Plan
     requires { ⌜ Stands (now sheet) c ⌝ }
-    ensures { λ r. ⌜ ((limit n : ℕ) → Planned (now (sheet .entry)) limit n c (λ (st : Setting) (p : Point). silent (answering p (p .rows))) r) ⌝ }
+    ensures { λ r. ⌜ ((limit n : ℕ) (g : Stage) → Planned (now (sheet .entry)) limit n c g (λ (st : Setting) (p : Point). silent (answering p (p .rows))) r) ⌝ }
 {
     let at = c.at;
     if sheet.len() <= at {
@@ -197,7 +201,7 @@ fn finish(c: Cursor) -> Plan
     v.work = 0;
     Plan {
         cursor: v,
-        act: Act::Turn,
+        act: Act::Rest,
         say: Say::StateLine,
     }
 }
@@ -249,7 +253,7 @@ fn read_row(c: Cursor, row: Row, after: usize) -> Plan
 // The next line, with no event at work; n is the number of components.
 fn read(sheet: &[u8], n: usize, c: Cursor) -> Plan
     requires { ⌜ Stands (now sheet) c ⌝ }
-    ensures { λ r. ⌜ ((limit : ℕ) → Planned (now (sheet .entry)) limit n c (λ (st : Setting) (p : Point). reading st p (p .rows)) r) ⌝ }
+    ensures { λ r. ⌜ ((limit : ℕ) → Planned (now (sheet .entry)) limit n c Stage.Rests (λ (st : Setting) (p : Point). reading st p (p .rows)) r) ⌝ }
 {
     let at = c.at;
     if sheet.len() <= at {
@@ -263,7 +267,7 @@ fn read(sheet: &[u8], n: usize, c: Cursor) -> Plan
 // One step of a run, by what is due.
 fn next_step(sheet: &[u8], limit: u64, n: usize, stage: Stage, c: Cursor) -> Plan
     requires { ⌜ Stands (now sheet) c ⌝ }
-    ensures { λ r. ⌜ Planned (now (sheet .entry)) limit n c (λ (st : Setting) (p : Point). stepBy st p stage) r ⌝ }
+    ensures { λ r. ⌜ Planned (now (sheet .entry)) limit n c stage (λ (st : Setting) (p : Point). stepBy st p stage) r ⌝ }
 {
     match stage {
         Stage::Waits => answer_by_line(sheet, c),
@@ -282,13 +286,14 @@ fn next_step(sheet: &[u8], limit: u64, n: usize, stage: Stage, c: Cursor) -> Pla
     }
 }
 
-// Does it do anything to the machine?
+// Does more of the machine change than its queue and its mark of failure?
 fn touches(act: Act) -> bool
-    ensures { λ r. ⌜ r ≡ moving act ⌝ }
+    ensures { λ r. ⌜ r ≡ touching act ⌝ }
 {
     match act {
         Act::Stay => false,
-        Act::Queue(_) => true,
+        Act::Rest => false,
+        Act::Queue(_) => false,
         Act::Give(_) => true,
         Act::Turn => true,
     }
@@ -296,13 +301,40 @@ fn touches(act: Act) -> bool
 
 fn acted(m: Machine, act: Act) -> Machine
     requires { ⌜ Whole m ⌝ }
-    ensures { λ r. ⌜ Becomes m (acts (chainOf m) (m .«max_retry») act (view m)) r ⌝ }
+    ensures { λ r. ⌜ Becomes m (actedBy (chainOf m) (m .«max_retry») act (view m)) r ⌝ }
 {
     match act {
         Act::Stay => m,
-        Act::Queue(event) => settling::enqueue(m, event),
+        Act::Rest => m,
+        Act::Queue(_) => m,
         Act::Give(reply) => settling::replied(m, reply),
         Act::Turn => settling::turn(m),
+    }
+}
+
+// The queue after it.
+fn queued(pending: Pending, act: Act) -> Pending
+    ensures { λ r. ⌜ events r ≡ queuedBy act (events pending) ⌝ }
+{
+    match act {
+        Act::Stay => pending,
+        Act::Rest => pending,
+        Act::Queue(event) => pending.push_back(event),
+        Act::Give(_) => pending,
+        Act::Turn => pending,
+    }
+}
+
+// Does the dispatch count as failed after it?
+fn failing(failed: bool, act: Act) -> bool
+    ensures { λ r. ⌜ r ≡ failedBy act failed ⌝ }
+{
+    match act {
+        Act::Stay => failed,
+        Act::Rest => false,
+        Act::Queue(_) => failed,
+        Act::Give(_) => failed,
+        Act::Turn => failed,
     }
 }
 
@@ -401,6 +433,10 @@ pub fn drive(sheet: &[u8], out: &mut [u8], limit: u64, machine: Machine) -> End
         if touches(act) {
             m = acted(m, act);
         }
+        let pending = m.pending;
+        let queue = queued(pending, act);
+        m.pending = queue;
+        m.failed = failing(m.failed, act);
         let waiting = m.waiting;
         let mut line = said_line(say, state, waiting);
         if tells(say) {

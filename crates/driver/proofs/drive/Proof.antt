@@ -3,16 +3,17 @@ use mathlib.Core.Path.{_≡_, refl, sym, ap, _∙_}
 use mathlib.Core.Logic.{⊎-elim}
 use borrow.Author.Needs.{needs}
 use native.Mathlib.Omega.{arith}
-use Rattle.driver.proofs.Going.{Going, measure, becomes-is, kept, tells-one, line-said, line-told-of, began, long, ends, goes-on, comes-down}
+use Rattle.driver.proofs.Going.{Going, measure, becomes-is, kept, marks, tells-one, line-said, line-told-of, began, long, ends, goes-on, comes-down}
 use lib.ListN.{length}
 use Rattle.chain.specs.declared.Chain.{Chain}
 use Rattle.chain.specs.Tables.{entries}
 use Rattle.text.specs.declared.Line.{Line}
 use Rattle.text.specs.Lines.{textOf}
 use Rattle.settling.specs.View.{view, chainOf, Becomes}
+use Rattle.settling.proofs.Views.{pends}
 use Rattle.driver.specs.Run.{transcript}
 use Rattle.driver.specs.Seen.{seen}
-use Rattle.driver.specs.Plans.{acts, says}
+use Rattle.driver.specs.Plans.{actedBy, acts, says}
 use Rattle.driver.proofs.drive.Statement.{statement}
 use Rattle.driver.proofs.drive.Tie as tie
 
@@ -44,7 +45,7 @@ acted-requires : tie.Need-acted-requires Inv-loop μ-loop
 acted-requires c κs = c .before .before .before .before .before .loop .inv .whole
 
 -- The machine after the step.
-became : (c : tie.Joined1 Inv-loop μ-loop) → Becomes (c .before .before .before .before .before .loop .m) (acts (chainOf (c .before .before .before .before .before .loop .m)) (c .before .before .before .before .before .loop .m .«max_retry») (c .before .before .next-step .result .act) (view (c .before .before .before .before .before .loop .m))) (c .if1 .m)
+became : (c : tie.Joined1 Inv-loop μ-loop) → Becomes (c .before .before .before .before .before .loop .m) (actedBy (chainOf (c .before .before .before .before .before .loop .m)) (c .before .before .before .before .before .loop .m .«max_retry») (c .before .before .next-step .result .act) (view (c .before .before .before .before .before .loop .m))) (c .if1 .m)
 became c =
     let loop = c .before .before .before .before .before .loop in
     let touches = c .before .touches in
@@ -52,6 +53,16 @@ became c =
     (λ w. becomes-is (w .1 .ensures) (w .2))
     (λ w. becomes-is (kept (loop .m) (c .before .before .next-step .result .act) (sym (touches .ensures) ∙ w .0 .left) (loop .inv .whole)) (w .1))
     (c .if1 .came)
+
+queued-requires : tie.Need-queued-requires Inv-loop μ-loop
+queued-requires c κs = search needs
+
+failing-requires : tie.Need-failing-requires Inv-loop μ-loop
+failing-requires c κs = search needs
+
+-- And its queue and its mark of failure.
+made : (c : tie.After-failing Inv-loop μ-loop) → Becomes (c .before .before .before .before .before .before .before .before .loop .m) (acts (chainOf (c .before .before .before .before .before .before .before .before .loop .m)) (c .before .before .before .before .before .before .before .before .loop .m .«max_retry») (c .before .before .before .before .before .next-step .result .act) (view (c .before .before .before .before .before .before .before .before .loop .m))) (pends (c .before .queued .result) (c .failing .result) (c .before .before .before .if1 .m))
+made c = marks (c .before .before .before .before .before .next-step .result .act) (became (c .before .before .before)) (c .before .queued .result) (c .before .queued .ensures) (c .failing .result) (c .failing .ensures)
 
 said-line-requires : tie.Need-said-line-requires Inv-loop μ-loop
 said-line-requires c κs = search needs
@@ -61,19 +72,19 @@ tells-requires c κs = search needs
 
 told-line-requires : tie.Need-told-line-requires Inv-loop μ-loop
 told-line-requires c κs =
-    let plan = c .before .before .before .before .before .before .next-step in
-    (c .before .before .before .before .before .before .before .before .before .before .before .count .ensures .0, tells-one (plan .result .say) _ _ (sym (c .before .before .tells .ensures) ∙ c .before .if2 .taken) (plan .ensures .tells))
+    let plan = c .before .before .before .before .before .before .before .before .before .next-step in
+    (c .before .before .before .before .before .before .before .before .before .before .before .before .before .before .count .ensures .0, tells-one (plan .result .say) _ _ (sym (c .before .before .tells .ensures) ∙ c .before .if2 .taken) (plan .ensures .tells))
 
 -- The line that it writes.
-told : (c : tie.Joined2 Inv-loop μ-loop) → textOf (c .if2 .line) ≡ transcript (says (chainOf (c .before .before .before .before .before .before .before .before .before .before .before .before .before .before .args .machine)) (c .before .before .before .before .before .next-step .result .say) (view (c .before .before .before .before .before .before .before .before .loop .m)) (view (c .before .before .before .if1 .m)) (c .before .before .before .before .before .before .before .before .loop .c .told))
+told : (c : tie.Joined2 Inv-loop μ-loop) → textOf (c .if2 .line) ≡ transcript (says (chainOf (c .before .before .before .before .before .before .before .before .before .before .before .before .before .before .before .before .before .args .machine)) (c .before .before .before .before .before .before .before .before .next-step .result .say) (view (c .before .before .before .before .before .before .before .before .before .before .before .loop .m)) (view (pends (c .before .before .before .before .queued .result) (c .before .before .before .failing .result) (c .before .before .before .before .before .before .if1 .m))) (c .before .before .before .before .before .before .before .before .before .before .before .loop .c .told))
 told c =
-    let loop = c .before .before .before .before .before .before .before .before .loop in
-    let ch = chainOf (c .before .before .before .before .before .before .before .before .before .before .before .before .before .before .args .machine) in
-    let say = c .before .before .before .before .before .next-step .result .say in
-    let v = c .before .before .before .if1 .m in
+    let loop = c .before .before .before .before .before .before .before .before .before .before .before .loop in
+    let ch = chainOf (c .before .before .before .before .before .before .before .before .before .before .before .before .before .before .before .before .before .args .machine) in
+    let say = c .before .before .before .before .before .before .before .before .next-step .result .say in
+    let v = pends (c .before .before .before .before .queued .result) (c .before .before .before .failing .result) (c .before .before .before .before .before .before .if1 .m) in
     let tells = c .before .tells in
-    let count = c .before .before .before .before .before .before .before .before .before .before .count in
-    let same = ap (λ (k : Chain). length (entries k)) (became (c .before .before .before) .chain ∙ loop .inv .chain) in
+    let count = c .before .before .before .before .before .before .before .before .before .before .before .before .before .count in
+    let same = ap (λ (k : Chain). length (entries k)) (made (c .before .before .before) .chain ∙ loop .inv .chain) in
     ⊎-elim
     (λ w. ap (λ (l : Line). textOf l) (w .3) ∙ w .2 .ensures ∙ line-told-of ch (loop .m) v (loop .c .told) (count .result) (count .ensures .0 ∙ sym same) say (sym (tells .ensures) ∙ w .0 .taken))
     (λ w. ap (λ (l : Line). textOf l) (w .1) ∙ c .before .before .said-line .ensures ∙ ap transcript (line-said ch (loop .m) v (loop .c .told) say (sym (tells .ensures) ∙ w .0 .left)))
@@ -87,27 +98,23 @@ record-line-requires c κs = search needs
 
 loop-less : tie.Need-loop-less Inv-loop μ-loop
 loop-less c =
-    let start = c .before .before .before .before .before .before .before .before .before .before .before .before .before .before .before .before .before .before .before .before in
-    let loop = c .before .before .before .before .before .before .before .before .before .before .before .before .before .before .loop in
-    let due = c .before .before .before .before .before .before .before .before .before .before .before .before .due in
-    let plan = c .before .before .before .before .before .before .before .before .before .before .before .next-step in
-    let v = c .before .before .before .before .before .before .before .before .before .if1 .m in
-    let line = c .before .before .before .before .before .before .if2 .line in
+    let start = c .before .before .before .before .before .before .before .before .before .before .before .before .before .before .before .before .before .before .before .before .before .before .before in
+    let loop = c .before .before .before .before .before .before .before .before .before .before .before .before .before .before .before .before .before .loop in
+    let due = c .before .before .before .before .before .before .before .before .before .before .before .before .before .before .before .due in
+    let plan = c .before .before .before .before .before .before .before .before .before .before .before .before .before .before .next-step in
     let append = c .before .before .before .append in
-    comes-down (start .args .sheet .now) (start .args .out .now) (start .args .limit) (start .args .machine) (loop .out) (loop .m) (loop .c) (loop .inv) (c .before .before .before .before .before .before .before .before .before .before .before .before .before .loop-test .taken) (c .before .before .before .before .before .before .before .before .before .before .before .before .before .before .before .before .count .result) (c .before .before .before .before .before .before .before .before .before .before .before .before .before .before .before .before .count .ensures .0)
-    (due .result) (due .ensures) (plan .result) (plan .ensures) v (became (c .before .before .before .before .before .before .before .before .before)) line (told (c .before .before .before .before .before .before)) (append .result) (c .record-line .result) (c .record-line .ensures)
+    comes-down (start .args .sheet .now) (start .args .out .now) (start .args .limit) (start .args .machine) (loop .out) (loop .m) (loop .c) (loop .inv) (c .before .before .before .before .before .before .before .before .before .before .before .before .before .before .before .before .loop-test .taken) (c .before .before .before .before .before .before .before .before .before .before .before .before .before .before .before .before .before .before .before .count .result) (c .before .before .before .before .before .before .before .before .before .before .before .before .before .before .before .before .before .before .before .count .ensures .0)
+    (due .result) (due .ensures) (plan .result) (plan .ensures) _ (made (c .before .before .before .before .before .before .before .before .before)) (c .before .before .before .before .before .before .if2 .line) (told (c .before .before .before .before .before .before)) (append .result) (c .record-line .result) (c .record-line .ensures)
 
 loop-again : tie.Need-loop-again Inv-loop μ-loop
 loop-again c =
-    let start = c .before .before .before .before .before .before .before .before .before .before .before .before .before .before .before .before .before .before .before .before in
-    let loop = c .before .before .before .before .before .before .before .before .before .before .before .before .before .before .loop in
-    let due = c .before .before .before .before .before .before .before .before .before .before .before .before .due in
-    let plan = c .before .before .before .before .before .before .before .before .before .before .before .next-step in
-    let v = c .before .before .before .before .before .before .before .before .before .if1 .m in
-    let line = c .before .before .before .before .before .before .if2 .line in
+    let start = c .before .before .before .before .before .before .before .before .before .before .before .before .before .before .before .before .before .before .before .before .before .before .before in
+    let loop = c .before .before .before .before .before .before .before .before .before .before .before .before .before .before .before .before .before .loop in
+    let due = c .before .before .before .before .before .before .before .before .before .before .before .before .before .before .before .due in
+    let plan = c .before .before .before .before .before .before .before .before .before .before .before .before .before .before .next-step in
     let append = c .before .before .before .append in
-    goes-on (start .args .sheet .now) (start .args .out .now) (start .args .limit) (start .args .machine) (loop .out) (loop .m) (loop .c) (loop .inv) (c .before .before .before .before .before .before .before .before .before .before .before .before .before .loop-test .taken) (c .before .before .before .before .before .before .before .before .before .before .before .before .before .before .before .before .count .result) (c .before .before .before .before .before .before .before .before .before .before .before .before .before .before .before .before .count .ensures .0)
-    (due .result) (due .ensures) (plan .result) (plan .ensures) v (became (c .before .before .before .before .before .before .before .before .before)) line (told (c .before .before .before .before .before .before)) (append .result) (c .record-line .result) (c .record-line .ensures) (append .ensures .0) _ (append .ensures .1)
+    goes-on (start .args .sheet .now) (start .args .out .now) (start .args .limit) (start .args .machine) (loop .out) (loop .m) (loop .c) (loop .inv) (c .before .before .before .before .before .before .before .before .before .before .before .before .before .before .before .before .loop-test .taken) (c .before .before .before .before .before .before .before .before .before .before .before .before .before .before .before .before .before .before .before .count .result) (c .before .before .before .before .before .before .before .before .before .before .before .before .before .before .before .before .before .before .before .count .ensures .0)
+    (due .result) (due .ensures) (plan .result) (plan .ensures) _ (made (c .before .before .before .before .before .before .before .before .before)) (c .before .before .before .before .before .before .if2 .line) (told (c .before .before .before .before .before .before)) (append .result) (c .record-line .result) (c .record-line .ensures) (append .ensures .0) _ (append .ensures .1)
 
 same-length : tie.Need-same-length Inv-loop μ-loop
 same-length c = long _ _ _ _ (c .before .loop .out) (c .before .loop .m) (c .before .loop .c) (c .before .loop .inv)
@@ -131,6 +138,8 @@ drive-spec =
     next-step-requires
     touches-requires
     acted-requires
+    queued-requires
+    failing-requires
     said-line-requires
     tells-requires
     told-line-requires
