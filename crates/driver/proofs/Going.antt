@@ -1,12 +1,11 @@
 -- A run under way: what is written so far, and the steps that are left give the whole run.
 use mathlib.Core.Path.{_≡_, refl, sym, ap, subst, _∙_}
 use mathlib.Core.Bool.{Bool, true, false}
-use mathlib.Core.List.{List, [], _∷_, _++_, append-assoc, append-nil}
+use mathlib.Core.List.{List, [], _∷_, _++_, append-assoc}
 use Prim.Native.Nat.{ℕ, zero, suc, _+_, _≤_, _<_}
 use native.Mathlib.Omega.{arith}
 use borrow.Author.Tests.{le-leb, lt-leb, ltb-true}
-use lib.Dec.{leb}
-use lib.ListN.{length, take, drop, length-append, length-take, length-drop, length-map}
+use lib.ListN.{length, take, length-append, length-take, length-drop, length-map}
 use Rattle.model.specs.Vocabulary.{pick}
 use Rattle.model.specs.declared.Component.{Component}
 use Rattle.chain.specs.declared.Chain.{Chain}
@@ -38,7 +37,7 @@ use Rattle.driver.specs.declared.Act.the-variants.{Stay, Rest, Queue, Gi
 use Rattle.driver.specs.declared.Say.{Say}
 use Rattle.driver.specs.declared.Say.the-variants.{Silence, EffectLine, StateLine, StatusLine}
 use Rattle.driver.specs.Run.{Entry, Told, entryLine, transcript, Setting, Point, Step, Progress, stopped, stageOf, stepBy, stepFrom, recorded, steps, toDo, runFrom}
-use Rattle.driver.specs.Seen.{seen, settingOf, runOn, Ran}
+use Rattle.driver.specs.Seen.{seen, settingOf, Ran}
 use Rattle.driver.specs.Plans.{atStart, touching, actedBy, queuedBy, failedBy, marked, acts, tellingNow, spoken, says, Tells, wrote, Stands, planned, Planned}
 use Rattle.driver.proofs.Moves.{transcript-one, step-by}
 use Rattle.driver.proofs.Less.{step-less}

@@ -34,7 +34,7 @@ use Rattle.driver.specs.Run.{Entry, Settled·in, Told, entryLine, transc
 use Rattle.driver.specs.declared.Stage.{Stage}
 use Rattle.driver.specs.declared.Stage.the-variants.{Waits, HandsOut, Takes, Rests}
 use Rattle.driver.specs.Seen.{seen}
-use Rattle.driver.specs.Plans.{passes, stays, stops, answers, answersBy, hands, takes, finishes, tellsNext, begins, readsBy, actedBy, Stands, planned, Planned}
+use Rattle.driver.specs.Plans.{passes, stops, answers, answersBy, hands, takes, finishes, tellsNext, begins, readsBy, actedBy, Stands, Planned}
 
 -- One line is a transcript.
 pub transcript-one : (e : Entry) → transcript (e ∷ []) ≡ entryLine e

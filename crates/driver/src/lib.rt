@@ -1,7 +1,6 @@
 // A run of a sheet, in small steps: what the next line or the machine does, and then the line that it writes.
 ghost use mathlib.Core.Path.{_≡_};
-ghost use mathlib.Core.List.{List};
-ghost use Prim.Native.Nat.{ℕ, _<_, _≤_};
+ghost use Prim.Native.Nat.{ℕ, _<_};
 ghost use lib.Dec.{leb, ltb};
 ghost use lib.ListN.{length};
 ghost use Rattle.model.specs.Vocabulary.{pick};
@@ -104,6 +103,7 @@ fn due(m: Machine) -> Stage
     }
 }
 
+// Nothing is done and nothing said.
 fn stay(c: Cursor) -> Plan
     ensures { λ r. ⌜ r ≡ stays c ⌝ }
 {
@@ -299,6 +299,7 @@ fn touches(act: Act) -> bool
     }
 }
 
+// The machine after it, but for its queue and its mark of failure.
 fn acted(m: Machine, act: Act) -> Machine
     requires { ⌜ Whole m ⌝ }
     ensures { λ r. ⌜ Becomes m (actedBy (chainOf m) (m .«max_retry») act (view m)) r ⌝ }
@@ -360,6 +361,7 @@ fn said_line(say: Say, state: State, waiting: Waiting) -> Line
     }
 }
 
+// Is it a T line?
 fn tells(say: Say) -> bool
     ensures { λ r. ⌜ r ≡ tellingNow say ⌝ }
 {

@@ -1,8 +1,7 @@
 -- `drive` meets its contract: what is written so far, and the steps that are left, give the whole run.
-use mathlib.Core.Path.{_≡_, refl, sym, ap, _∙_}
+use mathlib.Core.Path.{_≡_, sym, ap, _∙_}
 use mathlib.Core.Logic.{⊎-elim}
 use borrow.Author.Needs.{needs}
-use native.Mathlib.Omega.{arith}
 use Rattle.driver.proofs.Going.{Going, measure, becomes-is, kept, marks, tells-one, line-said, line-told-of, began, long, ends, goes-on, comes-down}
 use lib.ListN.{length}
 use Rattle.chain.specs.declared.Chain.{Chain}
