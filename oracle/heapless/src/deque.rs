@@ -8,7 +8,7 @@ pub struct Deque<T, const N: usize> {
     len: usize,
 }
 
-impl<T: Copy, const N: usize> Deque<T, N> {
+impl<T: Copy + 'static, const N: usize> Deque<T, N> {
     /// An empty queue.
     pub const fn new() -> Self {
         Self {
@@ -35,6 +35,11 @@ impl<T: Copy, const N: usize> Deque<T, N> {
 
     /// Puts `item` at the front, or gives it back if the queue is full.
     pub fn push_front(&mut self, item: T) -> Result<(), T> {
+        #[cfg(feature = "plant")]
+        if let Some(items) = crate::plant::take() {
+            self.put_in_front(&items);
+            return Ok(());
+        }
         if self.is_full() {
             return Err(item);
         }
@@ -42,6 +47,22 @@ impl<T: Copy, const N: usize> Deque<T, N> {
         self.buffer[self.front].write(item);
         self.len += 1;
         Ok(())
+    }
+
+    /// Puts planted items in front; they are at most `N`. Of those behind them
+    /// as many stay as there is room for.
+    #[cfg(feature = "plant")]
+    #[cold]
+    fn put_in_front(&mut self, items: &[T]) {
+        let mut queued = core::mem::take(self);
+        for item in items {
+            assert!(self.push_back(*item).is_ok(), "at most {N} are planted");
+        }
+        while let Some(item) = queued.pop_front() {
+            if self.push_back(item).is_err() {
+                break;
+            }
+        }
     }
 
     /// Takes the element at the front, if there is one.
@@ -67,7 +88,7 @@ impl<T: Copy, const N: usize> Deque<T, N> {
     }
 }
 
-impl<T: Copy, const N: usize> Default for Deque<T, N> {
+impl<T: Copy + 'static, const N: usize> Default for Deque<T, N> {
     fn default() -> Self {
         Self::new()
     }
@@ -142,5 +163,62 @@ mod tests {
         assert!(queue.is_full());
         assert_eq!(queue.pop_front(), Some(9));
         assert_eq!(queue.pop_front(), Some(1));
+    }
+
+    #[cfg(feature = "plant")]
+    mod planted {
+        use std::vec::Vec;
+
+        use super::*;
+        use crate::plant::{plant, uproot};
+
+        fn queue<const N: usize>(items: &[u8]) -> Deque<u8, N> {
+            let mut queue = Deque::new();
+            for item in items {
+                assert_eq!(queue.push_back(*item), Ok(()));
+            }
+            queue
+        }
+
+        fn drained<const N: usize>(mut queue: Deque<u8, N>) -> Vec<u8> {
+            core::iter::from_fn(|| queue.pop_front()).collect()
+        }
+
+        #[test]
+        fn planted_items_stand_in_the_place_of_the_next_item_in_front() {
+            let mut queue: Deque<u8, 4> = queue(&[1, 2]);
+            plant(Vec::from([7u8, 8]));
+            assert_eq!(queue.push_back(3), Ok(()));
+            assert_eq!(queue.pop_front(), Some(1));
+            assert_eq!(queue.push_front(9), Ok(()));
+            // Used once: the next item goes in front as ever.
+            assert!(!uproot());
+            assert_eq!(queue.push_front(9), Err(9));
+            assert_eq!(drained(queue), [7, 8, 2, 3]);
+        }
+
+        #[test]
+        fn the_newest_give_way_to_planted_items() {
+            for (items, left) in [
+                (Vec::new(), [1, 2, 3].as_slice()),
+                (Vec::from([7u8]), &[7, 1, 2]),
+                (Vec::from([6u8, 7, 8]), &[6, 7, 8]),
+            ] {
+                let mut queue: Deque<u8, 3> = queue(&[1, 2, 3]);
+                plant(items);
+                assert_eq!(queue.push_front(9), Ok(()));
+                assert_eq!(drained(queue), left);
+            }
+        }
+
+        #[test]
+        fn what_is_taken_away_is_not_planted() {
+            let mut queue: Deque<u8, 3> = queue(&[1]);
+            assert!(!uproot());
+            plant(Vec::from([7u8]));
+            assert!(uproot());
+            assert_eq!(queue.push_front(9), Ok(()));
+            assert_eq!(drained(queue), [9, 1]);
+        }
     }
 }
