@@ -1,6 +1,7 @@
 //! Numbers that look random and depend on the seed alone (splitmix64), so that
 //! a comparison can be repeated.
 
+#[derive(Clone)]
 pub struct SplitMix64 {
     state: u64,
 }

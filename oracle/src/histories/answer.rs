@@ -20,6 +20,7 @@ pub fn answer_noting(history: &History, noting: bool) -> Answers {
     let mut run = Run {
         rest: &history.calls,
         noting,
+        in_vain: false,
         answers: Vec::new(),
         corners: Vec::new(),
     };
@@ -58,6 +59,8 @@ struct AtHand {
 struct Run<'a> {
     rest: &'a [Call],
     noting: bool,
+    /// Whether events are planted that the Rust must not use.
+    in_vain: bool,
     answers: Vec<Answer>,
     corners: Vec<String>,
 }
@@ -118,11 +121,8 @@ impl<'a> Run<'a> {
     fn call(&mut self, call: &Call, at_hand: &mut AtHand) {
         match call {
             Call::Begin(event) => self.dispatch(*event, at_hand),
-            Call::Reply(reply) => {
-                let number = at_hand.stepwise.reply(*reply);
-                assert_eq!(number, 7, "nothing waits");
-                self.called(number, None, read(&at_hand.rust));
-            }
+            Call::Reply(reply) => self.refuse(*reply, at_hand),
+            Call::Planted(_) => self.refuse(Reply::Failed, at_hand),
             Call::SetUp(machine) => {
                 let new = || set_up(&at_hand.entries, at_hand.max_retry, machine);
                 at_hand.stepwise.set_up(new());
@@ -133,12 +133,20 @@ impl<'a> Run<'a> {
         }
     }
 
+    /// A reply that no effect waits for.
+    fn refuse(&mut self, reply: Reply, at_hand: &mut AtHand) {
+        let number = at_hand.stepwise.reply(reply);
+        assert_eq!(number, 7, "nothing waits");
+        self.called(number, None, read(&at_hand.rust));
+    }
+
     /// An event, with the replies to its effects.
     fn dispatch(&mut self, event: Event, at_hand: &mut AtHand) {
         let AtHand { rust, stepwise, .. } = at_hand;
         let mut unfinished = false;
         assert_eq!(stepwise.begin(event), 0, "nothing waits");
         rust.dispatch_with(event, |effect| {
+            self.uproot();
             // The calls have ended: what the Rust makes of the rest is not asked.
             if unfinished {
                 return Ok(None);
@@ -149,6 +157,7 @@ impl<'a> Run<'a> {
             unfinished = reply.is_none();
             reply.unwrap_or(Ok(None))
         });
+        self.uproot();
         if unfinished {
             stepwise.leave();
             return;
@@ -178,15 +187,35 @@ impl<'a> Run<'a> {
                     self.next();
                     return Some(give(*reply, stepwise));
                 }
+                Call::Planted(events) => {
+                    self.next();
+                    self.in_vain = stepwise.has_failed();
+                    assert_eq!(stepwise.fail_planted(events), 0, "an effect waits");
+                    return Some(plant_failure(events));
+                }
             }
             self.next();
         }
+    }
+
+    /// After a planted reply: the Rust puts an item in front at the first failure
+    /// of a dispatch, and at no later one. What it has not used is taken away.
+    fn uproot(&mut self) {
+        let unused = heapless::plant::uproot();
+        assert_eq!(unused, self.in_vain, "the Rust's first failure");
+        self.in_vain = false;
     }
 }
 
 fn give(reply: Reply, stepwise: &mut Stepwise) -> Result<Option<Event>, EffectError> {
     assert_eq!(stepwise.reply(reply), 0, "an effect waits");
     reply.result()
+}
+
+/// A failed reply, with events planted for the Rust's queue.
+fn plant_failure(events: &[Event]) -> Result<Option<Event>, EffectError> {
+    heapless::plant::plant(events.to_vec());
+    Reply::Failed.result()
 }
 
 #[cfg(test)]
@@ -263,6 +292,58 @@ mod tests {
         assert_eq!(count("call_settled_7"), 1);
     }
 
+    fn count(text: &str, name: &str) -> usize {
+        let corners = answer(&parse(text).unwrap()).corners;
+        corners.iter().filter(|corner| *corner == name).count()
+    }
+
+    /// In the place of EffectFailed the component passes. The failure of its
+    /// release only ends the batch, and that of the next event is a first one.
+    #[test]
+    fn after_a_planted_failure_the_machine_need_not_lock() {
+        let text = "256 2 1 7 0 0 0 256\n257 0 0 0 0\n262 1 1 7 0 0\n262 1 17 0 0 0\n\
+                    257 5 0 0 0\n260\n258\n262 1 5 0 0 0";
+        assert_eq!(effects(text), [0, 2, 18, 4, 16, 18, 18]);
+        for name in [
+            "set_up_planted",
+            "set_up_planted_in_vain",
+            "set_up_later_failure_not_locked",
+            "set_up_first_failure_after_a_survived_one",
+        ] {
+            assert_eq!(count(text, name), 1, "{name}");
+        }
+    }
+
+    const CASCADE_OF_5: &str =
+        "256 2 6 1 0 0 0 256 2 0 2 0 256 3 0 0 0 2 4 0 0 0 2 5 0 0 0 2 6 0 0 0 2\n257 0 0 0 0";
+
+    /// The cascade of 2 has ten effects. The event of the first reply fills the
+    /// queue, that of the second is lost, and the others are handed out.
+    #[test]
+    fn an_event_that_is_lost_after_a_failure_does_not_end_the_batch() {
+        let inapt = " 5 0 0 0".repeat(7);
+        let done = "\n258".repeat(8);
+        let text = format!("{CASCADE_OF_5}\n262 8 10 2 0 0{inapt}\n259 5 0 0 0\n259 5 0 0 0{done}");
+        let expected = [0, 3, 11, 3, 11, 3, 11, 3, 11, 3, 11, 18];
+        assert_eq!(effects(&text), expected);
+        assert_eq!(count(&text, "set_up_reply_lost_after_a_failure"), 1);
+        assert_eq!(count(&text, "set_up_handed_after_a_loss"), 8);
+    }
+
+    /// Eight events are queued at a failure. The verdict among them is settled
+    /// where it is the oldest, and gives way where it is the newest.
+    #[test]
+    fn the_newest_of_8_gives_way_to_the_first_failure() {
+        let (verdict, inapt) = ("\n259 1 1 0 0", "\n259 5 0 0 0".repeat(7));
+        let begun = format!("{CASCADE_OF_5}\n258\n258\n257 10 2 0 0");
+        let oldest = format!("{begun}{verdict}{inapt}\n262 1 5 0 0 0");
+        let newest = format!("{begun}{inapt}{verdict}\n262 1 5 0 0 0");
+        assert_eq!(effects(&oldest)[12..], [2]);
+        assert_eq!(effects(&newest)[12..], [18]);
+        assert_eq!(count(&oldest, "set_up_kept_beside_one_put_out"), 1);
+        assert_eq!(count(&newest, "set_up_kept_beside_one_put_out"), 0);
+    }
+
     #[test]
     fn a_machine_is_set_up_while_an_effect_waits() {
         let text = "256 2 1 7 0 0 0 256\n257 0 0 0 0\n261 2 7 1 0 0 0 1 1\n257 3 7 0 0";
@@ -280,14 +361,17 @@ mod tests {
 
     /// The machine while an effect waits, from `dispatch_with` itself: it is
     /// left from within the callback at the last of the replies.
-    fn left_at(mut rust: Rust, event: Event, replies: &[Reply]) -> Machine {
+    fn left_at(mut rust: Rust, event: Event, replies: &[&Call]) -> Machine {
         let mut rest = replies.iter();
         let left = catch_unwind(AssertUnwindSafe(|| {
             rust.dispatch_with(event, |_| match rest.next() {
-                Some(reply) => reply.result(),
+                Some(Call::Reply(reply)) => reply.result(),
+                Some(Call::Planted(events)) => plant_failure(events),
+                Some(_) => unreachable!("a reply"),
                 None => resume_unwind(Box::new(())),
             });
         }));
+        heapless::plant::uproot();
         assert!(left.is_err(), "an effect waits");
         read(&rust)
     }
@@ -296,7 +380,7 @@ mod tests {
     /// `dispatch_with` has at that effect.
     #[test]
     fn the_machine_while_an_effect_waits_is_that_of_the_rust() {
-        let mut compared = 0;
+        let (mut compared, mut planted) = (0, 0);
         for history in histories(5).take(400) {
             let Some(Call::New { max_retry, list }) = history.calls.first() else {
                 continue;
@@ -313,7 +397,11 @@ mod tests {
                 };
                 match call {
                     Call::Begin(event) if called.number == 0 => begun = Some(*event),
-                    Call::Reply(reply) if called.number == 0 => replies.push(*reply),
+                    Call::Reply(_) if called.number == 0 => replies.push(call),
+                    Call::Planted(_) if called.number == 0 => {
+                        replies.push(call);
+                        planted += 1;
+                    }
                     _ => {}
                 }
                 if called.effect.is_some() {
@@ -328,5 +416,6 @@ mod tests {
             }
         }
         assert!(compared > 2_000, "{compared}");
+        assert!(planted > 20, "{planted}");
     }
 }

@@ -61,25 +61,56 @@ const NAMED: [&str; 40] = [
 
 /// No history reaches these; docs/TESTING.md says why. A history that does is
 /// a failure of the comparison.
-const NEVER: [&str; 6] = [
-    "lost_after_a_failure",
+const NEVER: [&str; 10] = [
+    "reply_lost_after_a_failure",
+    "emit_lost_after_a_failure",
+    "handed_after_a_loss",
     "second_failure_with_effects_left",
     "third_failure",
-    "call_settled_over_8",
+    "later_failure_not_locked",
+    "first_failure_after_a_survived_one",
+    SETTLED_OVER_8,
     READY_BY_COMPONENT_READY,
     WALK_AT_AN_ISOLATED_ONE,
 ];
+
+const SETTLED_OVER_8: &str = "call_settled_over_8";
 
 const READY_BY_COMPONENT_READY: &str = "component_ready_gives_ready";
 const WALK_AT_AN_ISOLATED_ONE: &str = "walk_at_an_isolated_one";
 const RETRY_STOPS: &str = "retry_stops_at_255";
 
-/// Reached from set-up machines.
-pub const SET_UP: [&str; 3] = [
+/// Reached from set-up machines and planted queues.
+const SET_UP: [&str; 13] = [
     READY_BY_COMPONENT_READY,
     WALK_AT_AN_ISOLATED_ONE,
     RETRY_STOPS,
+    "planted",
+    "planted_in_vain",
+    "reply_lost_after_a_failure",
+    "emit_lost_after_a_failure",
+    "handed_after_a_loss",
+    "second_failure_with_effects_left",
+    "third_failure",
+    "later_failure_not_locked",
+    "first_failure_after_a_survived_one",
+    "kept_beside_one_put_out",
 ];
+
+/// Whether a corner is noted of a machine that was set up: one that it has to
+/// reach, or the one that it must not reach either.
+pub fn is_noted_of_set_up(name: &str) -> bool {
+    SET_UP.contains(&name) || name == SETTLED_OVER_8
+}
+
+pub fn set_up(name: &str) -> String {
+    format!("set_up_{name}")
+}
+
+/// The corners that set-up machines have to reach.
+pub fn set_up_names() -> Vec<String> {
+    SET_UP.map(set_up).to_vec()
+}
 
 /// The corners that histories have to reach.
 pub fn names() -> Vec<String> {
@@ -111,11 +142,13 @@ pub fn rare_names() -> Vec<String> {
     names
 }
 
-/// The corners that no history reaches.
+/// The corners that no history reaches, and the one that no set-up does.
 pub fn never_names() -> Vec<String> {
     let rows = UNREACHED.iter().flat_map(|(_, rows)| rows.iter());
-    let never = NEVER.iter().map(|name| name.to_string());
-    never.chain(rows.map(|name| row(name))).collect()
+    let mut names = vec![set_up(SETTLED_OVER_8)];
+    names.extend(NEVER.map(String::from));
+    names.extend(rows.map(|name| row(name)));
+    names
 }
 
 /// Where a queued event came from.
@@ -127,6 +160,10 @@ pub enum Origin {
     Emitted,
     /// The first failure of the dispatch.
     Latched,
+    /// In the place of the first failure.
+    Planted,
+    /// One of 8 that were queued at a planted failure, but not the newest.
+    Kept,
 }
 
 pub fn number_of(event: &Event) -> u16 {
@@ -196,19 +233,25 @@ pub fn taken(taken: &Taken) -> Vec<String> {
 fn by_origin(taken: &Taken) -> Option<&'static str> {
     let locks = taken.before().state != State::Locked && taken.after().state == State::Locked;
     match taken.origin {
-        Origin::Begun => None,
+        Origin::Begun | Origin::Planted => None,
         Origin::Latched if locks => Some("effect_failed_locks"),
         Origin::Latched => Some("effect_failed_in_locked"),
         Origin::Emitted if locks => Some("emitted_recovery_failed_locks"),
         Origin::Emitted => Some("emitted_recovery_failed_does_nothing"),
         Origin::Fed(effect) => fed_back(taken, effect),
+        Origin::Kept if settled(taken) => Some("kept_beside_one_put_out"),
+        Origin::Kept => None,
     }
+}
+
+/// The event has done something.
+fn settled(taken: &Taken) -> bool {
+    taken.before() != taken.after() || !taken.answer.effects.is_empty()
 }
 
 /// A report that an effect asks for, fed back and settled by a rule.
 fn fed_back(taken: &Taken, effect: Effect) -> Option<&'static str> {
-    let settled = taken.before() != taken.after() || !taken.answer.effects.is_empty();
-    if !settled {
+    if !settled(taken) {
         return None;
     }
     match (effect, taken.case.event) {
@@ -275,7 +318,7 @@ fn retry_stops(taken: &Taken) -> bool {
 /// A call that settled this many events.
 pub fn call_settled(events: usize) -> String {
     if events > MOST_IN_A_CALL {
-        "call_settled_over_8".into()
+        SETTLED_OVER_8.into()
     } else {
         format!("call_settled_{events}")
     }

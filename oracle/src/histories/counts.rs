@@ -3,7 +3,7 @@
 
 use std::fmt;
 
-use super::corners::{SET_UP, names, never_names, rare_names};
+use super::corners::{names, never_names, rare_names, set_up_names};
 use super::generate::PROFILES;
 use super::{Answers, History};
 use crate::subject::{self, MINIMUMS_FROM};
@@ -29,7 +29,7 @@ fn profile(name: &str) -> String {
 impl Default for Counts {
     fn default() -> Self {
         let mut corners = names();
-        corners.extend(SET_UP.map(|name| format!("set_up_{name}")));
+        corners.extend(set_up_names());
         let mut rare: Vec<String> = PROFILES.iter().map(|p| profile(p.name)).collect();
         rare.extend(rare_names());
         Self {
@@ -137,7 +137,11 @@ mod tests {
 
     #[test]
     fn a_corner_that_no_history_should_reach_is_a_failure() {
-        for name in ["walk_at_an_isolated_one", "step_timeout_awaiting_isolated"] {
+        for name in [
+            "walk_at_an_isolated_one",
+            "step_timeout_awaiting_isolated",
+            "set_up_call_settled_over_8",
+        ] {
             let mut counts = counts_of(TEXT);
             counts.add(name);
             let message = format!("{name} is 1, but no history should reach it");

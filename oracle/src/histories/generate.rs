@@ -5,6 +5,7 @@
 use openprot_orchestrator_sm::{ComponentId, State};
 
 use super::History;
+use super::planted::planted_failures;
 use super::scenes::{
     failed_effect, full_queue, in_service, large, refused_list, set_up_machines, without_machine,
 };
@@ -34,10 +35,16 @@ const fn profile(
     Profile { name, weight, draw }
 }
 
-/// The machines that no history leads to; no sheet can set one up.
-pub const SET_UP_MACHINES: &str = "set_up_machines";
+/// What no history leads to: no sheet can set a machine up, or plant a failure.
+const SET_UP_MACHINES: &str = "set_up_machines";
+const PLANTED_FAILURES: &str = "planted_failures";
 
-pub const PROFILES: [Profile; 11] = [
+/// Whether sheets can be made from the histories of a profile.
+pub fn has_sheets(profile: &str) -> bool {
+    profile != SET_UP_MACHINES && profile != PLANTED_FAILURES
+}
+
+pub const PROFILES: [Profile; 12] = [
     profile("small_chains", 150, usual),
     profile("chains_of_255", 1, large),
     profile("deep_lines", 15, deep_line),
@@ -49,6 +56,8 @@ pub const PROFILES: [Profile; 11] = [
     profile("failed_effects", 90, failed_effect),
     profile("refused_lists", 50, refused_list),
     profile(SET_UP_MACHINES, 50, set_up_machines),
+    // Drawn in place of every other set-up history.
+    profile(PLANTED_FAILURES, 0, planted_failures),
 ];
 
 /// Endless histories for a seed. The same seed gives the same histories. The
@@ -61,9 +70,19 @@ pub fn histories(seed: u64) -> impl Iterator<Item = History> {
 
 fn draw_history(random: &mut SplitMix64) -> History {
     let Profile { name, draw, .. } = PROFILES[random.weighted(&PROFILES.map(|p| p.weight))];
+    let mut apart = random.clone();
+    let history = draw(random);
+    // A planted history takes no random number from those that follow it, so
+    // that all other histories of a seed, and its sheets, are the same without.
+    if name == SET_UP_MACHINES && apart.one_in(2) {
+        return History {
+            profile: PLANTED_FAILURES,
+            ..planted_failures(&mut apart)
+        };
+    }
     History {
         profile: name,
-        ..draw(random)
+        ..history
     }
 }
 

@@ -2,8 +2,9 @@
 
 use std::fmt;
 
-use openprot_orchestrator_sm::Status;
+use openprot_orchestrator_sm::{Event, Status};
 
+use super::stepwise::QUEUE;
 use super::{Answer, Answers, Call, Called, History, Reply};
 use crate::lists::answer::{Answer as Verdict, answer as verdict};
 use crate::lists::line::{byte, numbers};
@@ -22,6 +23,7 @@ const DONE: u64 = 258;
 const THEN: u64 = 259;
 const FAILED: u64 = 260;
 const SET_UP: u64 = 261;
+const PLANTED: u64 = 262;
 
 /// The number in the place of an effect where none waits.
 const NO_EFFECT: u16 = 18;
@@ -72,6 +74,11 @@ impl fmt::Display for Call {
             }
             Call::Reply(Reply::Failed) => write!(f, "{FAILED}"),
             Call::SetUp(machine) => write!(f, "{SET_UP} {machine}"),
+            Call::Planted(events) => {
+                write!(f, "{PLANTED} {}", events.len())?;
+                let mut fields = events.iter().map(event_fields);
+                fields.try_for_each(|fields| write_fields(f, fields))
+            }
         }
     }
 }
@@ -173,10 +180,19 @@ fn parse_call(line: &str, entries: Option<&[Entry]>) -> Result<Call, String> {
             let entries = entries.ok_or("no machine to set up")?;
             Call::SetUp(parse_machine(&mut fields, entries)?)
         }
+        PLANTED => Call::Planted(parse_planted(&mut fields)?),
         other => return Err(format!("call {other}")),
     };
     fields.end()?;
     Ok(call)
+}
+
+fn parse_planted(fields: &mut Fields) -> Result<Vec<Event>, String> {
+    let count = fields.one()?;
+    if count > QUEUE as u64 {
+        return Err(format!("{count} events for a queue of {QUEUE}"));
+    }
+    (0..count).map(|_| parse_event(fields)).collect()
 }
 
 fn parse_new(rest: &str) -> Result<Call, String> {
@@ -189,14 +205,15 @@ fn parse_new(rest: &str) -> Result<Call, String> {
 
 #[cfg(test)]
 mod tests {
-    use openprot_orchestrator_sm::{ComponentId, Effect, Event, State};
+    use openprot_orchestrator_sm::{BootFailureKind, ComponentId, Effect, State};
 
     use super::*;
     use crate::steps::Machine;
 
     const HISTORY: &str = "256 3 2 7 0 0 0 256 8 1 2 5 7\n257 0 0 0 0\n258\n\
                            2 1 7 0 0 0 256 0 256 0 0 0 0 0 0 0 0 0 0\n\
-                           259 14 8 65535 2\n260\n261 5 8 2 1 0 1 0 1 1 0 0 0\n257 17 0 0 0";
+                           259 14 8 65535 2\n260\n261 5 8 2 1 0 1 0 1 1 0 0 0\n257 17 0 0 0\n\
+                           262 2 5 0 0 0 14 8 1 2\n262 0";
 
     #[test]
     fn a_history_reads_back_as_it_was() {
@@ -219,6 +236,14 @@ mod tests {
         assert_eq!(calls[5], Call::Reply(Reply::Failed));
         assert!(matches!(&calls[6], Call::SetUp(m) if m.state == State::Recovering(id)));
         assert_eq!(calls[7], Call::Begin(Event::EffectFailed));
+        let failed = Event::BootFailed {
+            id,
+            checkpoint: "1",
+            kind: BootFailureKind::DeviceFatal,
+        };
+        let planted = vec![Event::AttestationChallenge, failed];
+        assert_eq!(calls[8], Call::Planted(planted));
+        assert_eq!(calls[9], Call::Planted(Vec::new()));
     }
 
     #[test]
@@ -226,6 +251,11 @@ mod tests {
         for text in [
             "",
             "262",
+            "262 1 5 0 0",
+            "262 1 5 0 0 0 5 0 0 0",
+            "262 1 18 0 0 0",
+            &format!("262 9{}", " 5 0 0 0".repeat(9)),
+            "263",
             "257",
             "257 0 0 0",
             "258 0",

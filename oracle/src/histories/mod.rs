@@ -7,6 +7,7 @@ pub mod counts;
 pub mod events;
 pub mod generate;
 pub mod line;
+pub mod planted;
 pub mod sample;
 pub mod scenes;
 pub mod stepwise;
@@ -52,6 +53,10 @@ pub enum Call {
     Reply(Reply),
     /// The machine at hand gets another situation, with nothing waiting.
     SetUp(Machine),
+    /// A reply that the effect failed. Where that is the first failure of its
+    /// dispatch, these events, at most 8, stand in the queue in the place of
+    /// EffectFailed; of those queued behind it as many stay as there is room for.
+    Planted(Vec<Event>),
 }
 
 /// Calls on one machine. None but the first is `New`.

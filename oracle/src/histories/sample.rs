@@ -6,7 +6,7 @@ use std::collections::HashSet;
 use openprot_orchestrator_sm::Event;
 
 use super::answer::answer;
-use super::corners::{SET_UP, names};
+use super::corners::{names, set_up_names};
 use super::generate::histories;
 use super::{Call, History};
 use crate::steps::sample as steps_sample;
@@ -58,7 +58,7 @@ fn is_short(history: &History) -> bool {
 
 fn wanted() -> HashSet<String> {
     let mut wanted: HashSet<String> = names().into_iter().collect();
-    wanted.extend(SET_UP.map(|name| format!("set_up_{name}")));
+    wanted.extend(set_up_names());
     for name in LONG {
         wanted.remove(name);
     }

@@ -61,7 +61,7 @@ impl From<OnNone> for Call {
 
 /// A Required component at position 0, and behind it a Cascading one with
 /// dependents in a row or around it.
-fn beside_a_cascade(random: &mut SplitMix64) -> Vec<Entry> {
+pub fn beside_a_cascade(random: &mut SplitMix64) -> Vec<Entry> {
     let length = random.between(6, 9);
     let mut entries = accepted(random, length);
     let in_a_row = random.one_in(2);

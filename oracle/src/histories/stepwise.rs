@@ -10,7 +10,8 @@ use openprot_orchestrator_sm::{Effect, Event, State};
 
 use super::Reply;
 use super::corners::{
-    Origin, SET_UP, Taken, begun, call_settled, ended, failed_at, handed, number_of, taken,
+    Origin, Taken, begun, call_settled, ended, failed_at, handed, is_noted_of_set_up, number_of,
+    taken,
 };
 use crate::lists::Entry;
 use crate::steps::answer::{Rust, read};
@@ -32,10 +33,15 @@ pub struct Stepwise {
     place: usize,
     waiting: Option<Effect>,
     failures: usize,
+    /// Whether an event was lost in this batch and the batch goes on.
+    lost: bool,
+    /// Whether the last dispatch that failed has ended in another state than
+    /// Locked.
+    survived: bool,
     /// The events taken in this dispatch, and those taken in this call.
     dispatch_taken: usize,
     call_taken: usize,
-    /// Whether the machine was set up, and not led to by a history.
+    /// Whether the machine or its queue was set up, and not led to by a history.
     set_up: bool,
     /// Whether corners are noted; who only follows a history has no use for them.
     noting: bool,
@@ -59,6 +65,8 @@ impl Stepwise {
             place: 0,
             waiting: None,
             failures: 0,
+            lost: false,
+            survived: false,
             dispatch_taken: 0,
             call_taken: 0,
             set_up: false,
@@ -113,6 +121,11 @@ impl Stepwise {
 
     pub fn queued(&self) -> usize {
         self.queue.len()
+    }
+
+    /// Whether this dispatch has failed.
+    pub fn has_failed(&self) -> bool {
+        self.failures > 0
     }
 
     /// The events that the last call has taken.
@@ -181,6 +194,35 @@ impl Stepwise {
         0
     }
 
+    /// The number for a failed `reply` whose failure is planted: if it is the
+    /// first one of its dispatch, the events stand in the place of EffectFailed.
+    pub fn fail_planted(&mut self, events: &[Event]) -> u8 {
+        if self.waiting.is_none() {
+            return self.reply(Reply::Failed);
+        }
+        self.set_up = true;
+        if self.has_failed() {
+            self.mark("planted_in_vain");
+            return self.reply(Reply::Failed);
+        }
+        self.mark("planted");
+        self.waiting = None;
+        let full = self.queue.len() == QUEUE;
+        self.fail();
+        self.queue.pop_front();
+        if full {
+            for (_, origin) in &mut self.queue {
+                *origin = Origin::Kept;
+            }
+        }
+        for event in events.iter().rev() {
+            self.queue.push_front((*event, Origin::Planted));
+        }
+        self.queue.truncate(QUEUE);
+        self.settle();
+        0
+    }
+
     /// Notes a corner. Of a machine that was set up only those are noted that
     /// it was set up for.
     fn mark(&mut self, name: &str) {
@@ -189,7 +231,7 @@ impl Stepwise {
         }
         if !self.set_up {
             self.corners.push(name.into());
-        } else if SET_UP.contains(&name) {
+        } else if is_noted_of_set_up(name) {
             self.corners.push(format!("set_up_{name}"));
         }
     }
@@ -222,6 +264,9 @@ impl Stepwise {
             return;
         }
         self.mark(&handed(&effect));
+        if self.lost {
+            self.mark("handed_after_a_loss");
+        }
         if self.place > FAR {
             self.mark("handed_past_place_256");
         }
@@ -238,7 +283,11 @@ impl Stepwise {
             return;
         }
         if self.failures > 0 {
-            self.mark("lost_after_a_failure");
+            self.lost = true;
+            self.mark(match origin {
+                Origin::Emitted => "emit_lost_after_a_failure",
+                _ => "reply_lost_after_a_failure",
+            });
             return;
         }
         if let Origin::Fed(_) = origin {
@@ -249,6 +298,9 @@ impl Stepwise {
 
     fn fail(&mut self) {
         let left = !self.batch.is_empty();
+        if self.failures > 0 && self.state() != State::Locked {
+            self.mark("later_failure_not_locked");
+        }
         match self.failures {
             0 => {
                 self.mark(if left {
@@ -277,6 +329,9 @@ impl Stepwise {
 
     /// The first failure in a dispatch.
     fn latch(&mut self) {
+        if self.survived {
+            self.mark("first_failure_after_a_survived_one");
+        }
         self.failures = 1;
         self.batch.clear();
         if self.queue.len() == QUEUE {
@@ -292,6 +347,7 @@ impl Stepwise {
         let sink = self.rust.step_once(&event);
         self.batch.extend(sink.effects());
         self.place = 0;
+        self.lost = false;
         self.call_taken += 1;
         self.dispatch_taken += 1;
         self.events += 1;
@@ -332,6 +388,9 @@ impl Stepwise {
             for name in ended(&self.machine(), self.dispatch_taken) {
                 self.mark(&name);
             }
+        }
+        if self.has_failed() {
+            self.survived = self.state() != State::Locked;
         }
         self.failures = 0;
         self.dispatch_taken = 0;

@@ -76,6 +76,12 @@ impl<'a> Writer<'a> {
         self.calls.push(Call::Reply(reply));
     }
 
+    /// A failure that these events take the place of.
+    pub fn fail_planted(&mut self, events: Vec<Event>) {
+        self.machine.fail_planted(&events);
+        self.calls.push(Call::Planted(events));
+    }
+
     pub fn set_up(&mut self, machine: Machine) {
         let rust = set_up(&self.entries, self.max_retry, &machine);
         self.machine.set_up(rust);
@@ -156,6 +162,22 @@ impl<'a> Writer<'a> {
     pub fn apt_event(&mut self) -> Event {
         let machine = self.machine.machine();
         apt_event(self.random, &self.entries, &machine)
+    }
+
+    /// An apt event that does not lock the machine by itself.
+    pub fn unlocking_event(&mut self) -> Event {
+        loop {
+            let event = self.apt_event();
+            if !matches!(event, Event::EffectFailed | Event::RecoveryFailed) {
+                return event;
+            }
+        }
+    }
+
+    pub fn done_if_waiting(&mut self) {
+        if self.machine.waiting().is_some() {
+            self.reply(Reply::Done);
+        }
     }
 
     fn draw_reply(&mut self, effect: Effect, mood: Mood) -> Reply {

@@ -6,7 +6,7 @@ use openprot_orchestrator_sm::{ComponentId, ComponentKind, Event, PowerOnResult}
 use super::damage::damage;
 use super::extremes::extremes;
 use super::{Line, PROGRAM_BYTES, Sheet};
-use crate::histories::generate::{PROFILES, SET_UP_MACHINES, histories};
+use crate::histories::generate::{PROFILES, has_sheets, histories};
 use crate::histories::stepwise::Stepwise;
 use crate::histories::{Call, History, Reply};
 use crate::lists::answer::chain;
@@ -33,7 +33,7 @@ const LONG_TRANSCRIPT: &str = "long_transcript";
 /// something that histories do not have.
 pub fn sources() -> Vec<&'static str> {
     let profiles = PROFILES.iter().map(|profile| profile.name);
-    let mut sources: Vec<&str> = profiles.filter(|name| *name != SET_UP_MACHINES).collect();
+    let mut sources: Vec<&str> = profiles.filter(|name| has_sheets(name)).collect();
     sources.extend([
         EXTREME,
         WITHOUT_EVENTS,
@@ -55,7 +55,7 @@ pub fn cases(seed: u64) -> impl Iterator<Item = Case> {
     // The first history has no machine; others set theirs up, which no sheet can.
     let mut histories = histories(random.next_u64())
         .skip(1)
-        .filter(|history| history.profile != SET_UP_MACHINES);
+        .filter(|history| has_sheets(history.profile));
     extremes.chain(std::iter::repeat_with(move || {
         let history = histories.next().expect("endless histories");
         draw_case(&mut random, &history)
@@ -104,7 +104,7 @@ pub fn of_history(random: &mut SplitMix64, history: &History) -> Sheet {
         match call {
             Call::Begin(event) => lines.event(random, *event),
             Call::Reply(reply) => lines.reply(random, *reply),
-            Call::Step(_) | Call::New { .. } | Call::SetUp(_) => {}
+            Call::Step(_) | Call::New { .. } | Call::SetUp(_) | Call::Planted(_) => {}
         }
     }
     let mut lines = lines.lines;

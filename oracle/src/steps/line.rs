@@ -105,7 +105,7 @@ impl<'a> Fields<'a> {
         Ok(taken)
     }
 
-    fn one(&mut self) -> Result<u64, String> {
+    pub fn one(&mut self) -> Result<u64, String> {
         Ok(self.take(1)?[0])
     }
 }
