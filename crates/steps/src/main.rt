@@ -8,9 +8,11 @@
 // A line whose first number is 256 or more is a step call. 256, max_retry, n, n entries: `new`, answered with the number
 // and both places. 257 with an event of four numbers: `begin`. 258, 259 with an event, 260: `reply` done, then, failed.
 // 261, state, its component or 256, cursor, window, n statuses: the machine at hand is set up so, with nothing waiting,
-// left or queued. A call is answered with its number, the effect (four numbers, or 18 0 0 0 for none), state, its
-// component or 256, cursor, window and the number of isolated components; and, where no effect waits, the four words of
-// the isolated positions and n statuses. Without a machine every call but `new` is answered with 99.
+// left or queued. 262, k, k events of four numbers: `reply` failed; where that is the first failure of its dispatch, these
+// events, at most 8, stand in the queue in the place of EffectFailed. A call is answered with its number, the effect (four
+// numbers, or 18 0 0 0 for none), state, its component or 256, cursor, window and the number of isolated components; and,
+// where no effect waits, the four words of the isolated positions and n statuses. Without a machine every call but `new`
+// is answered with 99.
 //
 // Any byte that is no digit ends a number. A number out of its range is brought into it, so that every line has an answer.
 ghost use mathlib.Core.Path.{_≡_};
@@ -614,6 +616,71 @@ fn set_up(ns: &[u64], m: Machine) -> Machine
     }
 }
 
+// The events of a line, at most 8.
+fn planted_events(ns: &[u64]) -> Pending {
+    let k = up_to(number_at(ns, 1), 8);
+    let mut queue = Pending::new();
+    let mut i: usize = 0;
+    while i < k {
+        queue = queue.push_back(event_at(ns, 2 + 4 * i));
+        i += 1;
+    }
+    queue
+}
+
+// The events of the first queue, and behind them those of the second but its front, as many as there is room for.
+fn in_place_of_front(first: Pending, second: Pending) -> Pending {
+    let n = second.count();
+    let entries = second.entries;
+    let mut queue = first;
+    let mut i: usize = 1;
+    while i < n {
+        let entry = entries[i];
+        let event = entry.event;
+        queue = queue.push_back(event);
+        i += 1;
+    }
+    queue
+}
+
+// The queue after a failure. A later failure of a dispatch queues nothing, so that nothing is planted there.
+fn planted(ns: &[u64], failed_before: bool, latched: Pending) -> Pending {
+    if failed_before {
+        return latched;
+    }
+    in_place_of_front(planted_events(ns), latched)
+}
+
+// The waiting effect failed. EffectFailed gives way to the events of the line, so that the machine need not lock: a
+// comparison sees here what is queued, lost and handed out after a failure.
+fn fail_planted(ns: &[u64], m: Machine) -> Machine
+    requires { ⌜ Valid m ⌝ }
+    ensures { λ r. ⌜ Valid r ⌝ }
+{
+    let failed_before = m.failed;
+    let mut v = settling::replied(m, Reply::Failed);
+    let latched = v.pending;
+    let queue = planted(ns, failed_before, latched);
+    v.pending = queue;
+    settling::settle(v)
+}
+
+// A failed reply whose failure is planted. Where no effect waits it is refused as any reply is.
+fn answer_planted(ns: &[u64], m: Machine) -> Machine
+    requires { ⌜ Valid m ⌝ }
+    ensures { λ r. ⌜ Valid r ⌝ }
+{
+    let waiting = m.waiting;
+    match waiting {
+        Waiting::Nothing => keep_called(sm::reply(m, Reply::Failed)),
+        Waiting::Handed(_) => {
+            let v = fail_planted(ns, m);
+            write_call(0, sm::waiting(v), v);
+            v
+        }
+    }
+}
+
 fn reply_of(ns: &[u64]) -> Reply {
     match number_at(ns, 0) {
         258 => Reply::Done,
@@ -634,9 +701,12 @@ fn call(ns: &[u64], m: Machine) -> Machine
     if kind < 261 {
         return keep_called(sm::reply(m, reply_of(ns)));
     }
-    let v = set_up(ns, m);
-    write_call(0, Waiting::Nothing, v);
-    v
+    if kind == 261 {
+        let v = set_up(ns, m);
+        write_call(0, Waiting::Nothing, v);
+        return v;
+    }
+    answer_planted(ns, m)
 }
 
 // The machine of a list. A refused list leaves none at hand.
