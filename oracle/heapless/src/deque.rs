@@ -36,8 +36,8 @@ impl<T: Copy + 'static, const N: usize> Deque<T, N> {
     /// Puts `item` at the front, or gives it back if the queue is full.
     pub fn push_front(&mut self, item: T) -> Result<(), T> {
         #[cfg(feature = "plant")]
-        if let Some(items) = crate::plant::take() {
-            self.put_in_front(&items);
+        if crate::plant::is_planted() {
+            self.push_planted();
             return Ok(());
         }
         if self.is_full() {
@@ -49,14 +49,16 @@ impl<T: Copy + 'static, const N: usize> Deque<T, N> {
         Ok(())
     }
 
-    /// Puts planted items in front; they are at most `N`. Of those behind them
-    /// as many stay as there is room for.
+    /// Puts what is planted in front; that is at most `N` items. Of those behind
+    /// them as many stay as there is room for. Kept apart from `push_front`, so
+    /// that who plants nothing pays as little as can be.
     #[cfg(feature = "plant")]
     #[cold]
-    fn put_in_front(&mut self, items: &[T]) {
+    #[inline(never)]
+    fn push_planted(&mut self) {
         let mut queued = core::mem::take(self);
-        for item in items {
-            assert!(self.push_back(*item).is_ok(), "at most {N} are planted");
+        for item in crate::plant::take() {
+            assert!(self.push_back(item).is_ok(), "at most {N} are planted");
         }
         while let Some(item) = queued.pop_front() {
             if self.push_back(item).is_err() {

@@ -3,15 +3,14 @@
 //! is a fixed array, as in heapless. Elements are `Copy` (those of the
 //! orchestrator are), so nothing has to be dropped.
 //!
-//! The feature `plant` adds the module of that name, which heapless has not.
+//! The module `plant` is no part of heapless. Only with the feature of that name
+//! does a queue ask for what is planted.
 
 #![no_std]
 
-#[cfg(feature = "plant")]
 extern crate std;
 
 mod deque;
-#[cfg(feature = "plant")]
 pub mod plant;
 mod vec;
 

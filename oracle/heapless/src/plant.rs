@@ -29,13 +29,15 @@ pub fn uproot() -> bool {
     IS_PLANTED.replace(false)
 }
 
+#[cfg(feature = "plant")]
+pub(crate) fn is_planted() -> bool {
+    IS_PLANTED.get()
+}
+
 /// What was planted, for a queue of such items.
-pub(crate) fn take<T: 'static>() -> Option<Vec<T>> {
-    if !IS_PLANTED.get() {
-        return None;
-    }
+#[cfg(feature = "plant")]
+pub(crate) fn take<T: 'static>() -> Vec<T> {
     IS_PLANTED.set(false);
     let items = PLANTED.take().expect("something is planted");
-    let items = items.downcast().expect("items of the queue's type");
-    Some(*items)
+    *items.downcast().expect("items of the queue's type")
 }

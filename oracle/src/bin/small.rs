@@ -1,4 +1,4 @@
-//! Compares every series of events on small chains; see oracle/README.md.
+//! Compares small chains, machine by machine; see oracle/README.md.
 
 use std::process::ExitCode;
 

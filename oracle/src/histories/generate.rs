@@ -56,7 +56,7 @@ pub const PROFILES: [Profile; 12] = [
     profile("failed_effects", 90, failed_effect),
     profile("refused_lists", 50, refused_list),
     profile(SET_UP_MACHINES, 50, set_up_machines),
-    // Drawn in place of every other set-up history.
+    // Drawn in place of about half of the set-up histories.
     profile(PLANTED_FAILURES, 0, planted_failures),
 ];
 

@@ -90,7 +90,7 @@ fn of_a_full_queue(writer: &mut Writer) {
             writer.reply(Reply::Then(event));
         }
     }
-    let planted = vec![writer.unlocking_event()];
+    let planted = vec![writer.not_locking_event()];
     storm(writer, planted);
 }
 
@@ -104,7 +104,7 @@ fn some_apt_events(writer: &mut Writer) -> Vec<Event> {
     let count = writer
         .random
         .pick(&[QUEUE, QUEUE, QUEUE, QUEUE - 1, 3, 1, 0]);
-    (0..count).map(|_| writer.unlocking_event()).collect()
+    (0..count).map(|_| writer.not_locking_event()).collect()
 }
 
 /// A planted failure and anything after it. Then a dispatch of its own fails
@@ -130,7 +130,7 @@ fn storm(writer: &mut Writer, planted: Vec<Event>) {
 }
 
 fn stormy_reply(writer: &mut Writer) {
-    let event = writer.unlocking_event();
+    let event = writer.not_locking_event();
     match writer.random.below(14) {
         0 | 1 => writer.reply(Reply::Failed),
         2 => writer.fail_planted(vec![event]),

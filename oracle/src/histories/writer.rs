@@ -164,8 +164,8 @@ impl<'a> Writer<'a> {
         apt_event(self.random, &self.entries, &machine)
     }
 
-    /// An apt event that does not lock the machine by itself.
-    pub fn unlocking_event(&mut self) -> Event {
+    /// An apt event, but none of the two that do nothing but lock.
+    pub fn not_locking_event(&mut self) -> Event {
         loop {
             let event = self.apt_event();
             if !matches!(event, Event::EffectFailed | Event::RecoveryFailed) {

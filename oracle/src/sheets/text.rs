@@ -8,7 +8,7 @@ use openprot_orchestrator_sm::{BootFailureKind, ComponentId, Effect, Event, Stat
 use super::{Line, Refusal, Sheet};
 use crate::histories::Reply;
 use crate::lists::Entry;
-use crate::steps::numbers::event_fields;
+use crate::steps::numbers::{component_of, event_fields};
 use crate::steps::rules::NAMING;
 
 /// The name of a variant, without its fields.
@@ -40,28 +40,17 @@ fn boot_failed(name: &str, id: ComponentId, checkpoint: &str, kind: BootFailureK
 pub fn effect(effect: &Effect) -> String {
     let name = name(effect);
     match effect {
-        Effect::ReadFirmware(id)
-        | Effect::VerifyFirmware(id)
-        | Effect::ReleaseReset(id)
-        | Effect::AssertReset(id)
-        | Effect::CommitSvnFloor(id)
-        | Effect::ReportIsolated(id)
-        | Effect::ReportRecoveryFailed(id) => format!("{name}\t{}", id.get()),
         Effect::RecoverComponent { id, attempt } => format!("{name}\t{}\t{attempt}", id.get()),
         Effect::ReportBootFailed {
             id,
             checkpoint,
             kind,
         } => boot_failed(&name, *id, checkpoint, *kind),
-        Effect::SignAttestation
-        | Effect::AuthenticateUpdate
-        | Effect::StageUpdate
-        | Effect::ActivateUpdate
-        | Effect::DiscardStaged
-        | Effect::ReportUpdateDeferred
-        | Effect::ReportUpdateAborted
-        | Effect::LatchLockdown => name,
         Effect::Emit(_) => unreachable!("Emit is never handed out"),
+        _ => match component_of(effect) {
+            Some(id) => format!("{name}\t{}", id.get()),
+            None => name,
+        },
     }
 }
 

@@ -5,15 +5,17 @@ use openprot_orchestrator_sm::{ComponentId, Effect, Event, State};
 use super::chains::{ABSENT, is_long};
 use crate::lists::Entry;
 use crate::steps::generate::named_event;
-use crate::steps::numbers::{BOOT_FAILURE_KINDS, EVENTS, POWER_ON_RESULTS, event, state_parts};
+use crate::steps::numbers::{
+    BOOT_FAILURE_KINDS, EVENTS, POWER_ON_RESULTS, component_of, event, state_parts,
+};
 use crate::steps::rules::{BOOT_FAILED, NAMING, POWER_GOOD, RULES};
 
 /// The checkpoint of BootFailed, by the number of its kind. It only passes through.
 const CHECKPOINTS: [u16; 3] = [0, 65_535, 300];
 
-/// The events that are begun from a machine in this state: all 18, with every
-/// id of the chain and one that it does not have, every power-on result and
-/// every kind of a boot failure.
+/// The events that are begun from a machine in this state. On chains of one and
+/// two: all 18, with every id of the chain and one that it does not have, every
+/// power-on result and every kind of a boot failure.
 pub fn begun(entries: &[Entry], state: State) -> Vec<Event> {
     if is_long(entries.len()) {
         return ruled(entries, state);
@@ -59,7 +61,7 @@ fn of_name(name: usize, ids: &[ComponentId]) -> Vec<Event> {
 /// one of its dispatch or not: the reports that it asks for, and at the first
 /// one stray events too.
 pub fn fed(entries: &[Entry], effect: Effect, first: bool) -> Vec<Event> {
-    let id = named(effect).unwrap_or(entries[0].0);
+    let id = component_of(&effect).unwrap_or(entries[0].0);
     let mut events = reports(entries, effect);
     let stray = match effect {
         // An event that is fed back here stands before the emitted
@@ -130,22 +132,6 @@ pub fn overtaking(entries: &[Entry], effects: &[Effect]) -> Vec<[Event; 3]> {
             ends.map(|end| [Event::Restored(*id), Event::Timeout(other), end])
         })
         .collect()
-}
-
-/// The component that an effect names.
-fn named(effect: Effect) -> Option<ComponentId> {
-    match effect {
-        Effect::ReadFirmware(id)
-        | Effect::VerifyFirmware(id)
-        | Effect::ReleaseReset(id)
-        | Effect::AssertReset(id)
-        | Effect::CommitSvnFloor(id)
-        | Effect::RecoverComponent { id, .. }
-        | Effect::ReportIsolated(id)
-        | Effect::ReportRecoveryFailed(id)
-        | Effect::ReportBootFailed { id, .. } => Some(id),
-        _ => None,
-    }
 }
 
 #[cfg(test)]

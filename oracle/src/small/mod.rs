@@ -1,5 +1,7 @@
-//! Every series of events on small chains: all machines at rest that a history
-//! reaches from `new`, with every event begun from each of them.
+//! Small chains, machine by machine: all machines at rest that the events and
+//! replies of `alphabet` reach from `new`, with each of those events begun from
+//! each of them. Series of these events are covered at any length; other events
+//! and replies are not.
 
 pub mod alphabet;
 pub mod chains;

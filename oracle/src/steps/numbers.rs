@@ -176,6 +176,30 @@ pub fn effect_fields(effect: &Effect) -> [u16; 4] {
     }
 }
 
+/// The component that an effect names.
+pub fn component_of(effect: &Effect) -> Option<ComponentId> {
+    match effect {
+        Effect::ReadFirmware(id)
+        | Effect::VerifyFirmware(id)
+        | Effect::ReleaseReset(id)
+        | Effect::AssertReset(id)
+        | Effect::CommitSvnFloor(id)
+        | Effect::RecoverComponent { id, .. }
+        | Effect::ReportIsolated(id)
+        | Effect::ReportRecoveryFailed(id)
+        | Effect::ReportBootFailed { id, .. } => Some(*id),
+        Effect::SignAttestation
+        | Effect::AuthenticateUpdate
+        | Effect::StageUpdate
+        | Effect::ActivateUpdate
+        | Effect::DiscardStaged
+        | Effect::ReportUpdateDeferred
+        | Effect::ReportUpdateAborted
+        | Effect::LatchLockdown
+        | Effect::Emit(_) => None,
+    }
+}
+
 #[cfg(test)]
 mod tests {
     use super::*;
