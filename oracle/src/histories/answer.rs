@@ -260,7 +260,7 @@ mod tests {
 
     #[test]
     fn without_a_machine_there_is_nothing_to_call() {
-        assert_eq!(answers("257 0 0 0 0\n258"), ["99", "99"]);
+        assert_eq!(answers("257 0 0 0 0\n258\n262 0"), ["99", "99", "99"]);
         assert_eq!(answers("256 2 0\n260"), ["2 0 0", "99"]);
     }
 

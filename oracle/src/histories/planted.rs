@@ -1,5 +1,5 @@
 //! Histories with planted failures: other events in the place of EffectFailed,
-//! so that the machine does not lock and what follows a failure can be seen.
+//! so that the machine need not lock and what follows a failure can be seen.
 
 use openprot_orchestrator_sm::{ComponentId, Event, State};
 
