@@ -1,6 +1,6 @@
 -- A queue makes the cascade: at any moment it holds the rest of one level and the start of the next, and these with all that is still to come behind them give the whole.
 use mathlib.Core.Path.{_≡_, refl, sym, _∙_, ap, subst}
-use mathlib.Core.List.{List, [], _∷_, _++_, append-assoc, append-nil, List·Memᴰ·head}
+use mathlib.Core.List.{List, [], _∷_, _++_, append-assoc, append-nil, List·Memᴰ, List·Memᴰ·head, Memᴰ·append-left, Memᴰ·append-right}
 use Prim.Native.Nat.{ℕ, zero, suc, _≤_, _<_}
 use native.Mathlib.Omega.{arith}
 use lib.ListN.{length, take, drop, getD, length-append, length-drop, take-append-drop, drop-of-length-le}
@@ -8,7 +8,8 @@ use lib.Seq.{take-all, take-suc, drop-cons, take-append-le, drop-append-le}
 use Rattle.model.specs.declared.Component.{Component}
 use Rattle.components.specs.Chain.{Sound}
 use Rattle.cascade.specs.Cascade.{below, childrenIn, childrenOf, spread, cascade}
-use Rattle.cascade.proofs.Closed.{Late, level-late, root-late}
+use Rattle.cascade.proofs.Below.{in-append}
+use Rattle.cascade.proofs.Closed.{Late, level-late, root-late, cascade-within}
 
 -- The direct dependents of the component at h.
 abbrev pub kids : List Component → ℕ → List ℕ
@@ -109,3 +110,11 @@ module _ (k : ℕ) (ch : List Component) (s : Sound k ch) (root : ℕ) where
         length-append (g .next) (childrenOf ch (g .this)),
         spread-long ch (g .levels) rest,
       )
+
+  -- The front is a position of the chain: of the cascade, or of the level that comes.
+  pub front-within : root < length ch → (i : ℕ) (l : List ℕ) → i < length l → Going ch root i l → getD l i 0 < length ch
+  front-within b i l h g =
+      in-append (g .this)
+      (λ m. cascade-within ch root b (getD l i 0) (subst (List·Memᴰ (getD l i 0)) (g .whole) (Memᴰ·append-right (take i l) (Memᴰ·append-left (spread ch (g .levels) (g .next ++ childrenOf ch (g .this))) m))))
+      (λ m. g .late (getD l i 0) (Memᴰ·append-left (childrenOf ch (g .this)) m) .0)
+      (subst (List·Memᴰ (getD l i 0)) (sym (drop-cons l i 0 h) ∙ g .left) (List·Memᴰ·head refl))

@@ -52,11 +52,18 @@ module _ (t : List ℕ) (h : ℕ) where
       push true e = ap (λ (m : List ℕ). p ∷ m) e
       push false e = e
 
-  pub starts : (o : Order) → length (o .at) ≡ 255 → o .count ≤ 255 → Lists (take 255 (listed o ++ dependents t h (below 0))) o
-  unfolding below dependents
-  starts o full b =
+  -- Where none of the positions has the holder, nothing is found,
+  pub none-found : (ps : List ℕ) → ((p : ℕ) → List·Memᴰ p ps → getD t p 0 ≡ h → ⊥) → dependents t h ps ≡ []
+  unfolding dependents
+  none-found [] f = refl
+  none-found (p ∷ ps) f = rw (ne-eqb _ _ (f p (List·Memᴰ·head refl))) (none-found ps (λ q m. f q (List·Memᴰ·tail m)))
+
+  -- and what was found behind the others so far is the order itself.
+  pub starts : (o : Order) → length (o .at) ≡ 255 → o .count ≤ 255 → (p : ℕ) → dependents t h (below p) ≡ []
+      → Lists (take 255 (listed o ++ dependents t h (below p))) o
+  starts o full b p e =
       let n : length (listed o) ≡ o .count = omega (arith, length-take (o .count) (o .at)) in
-      record { list = sym (rw append-nil (take-all 255 (listed o) (omega arith))); count = sym n }
+      record { list = sym (rw (e, append-nil) (take-all 255 (listed o) (omega arith))); count = sym n }
 
   module _ (l : List ℕ) (p : ℕ) where
     -- Position p depends on the holder, and goes behind the others,

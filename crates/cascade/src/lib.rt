@@ -1,6 +1,7 @@
 // The components that a cascade gates, in order.
 ghost use mathlib.Core.List.{[], _∷_, _++_};
-ghost use Prim.Native.Nat.{_≤_, _<_};
+ghost use mathlib.Core.Path.{_≡_};
+ghost use Prim.Native.Nat.{_+_, _≤_, _<_};
 ghost use lib.ListN.{length, take};
 ghost use Rattle.components.specs.Chain.{Sound};
 ghost use Rattle.chain.specs.Tables.{entries, Charted};
@@ -30,13 +31,14 @@ fn appended(mut order: Order, position: u8) -> Order
     order
 }
 
-// Behind the others, in chain order, those of the first `n` positions whose dependency stands at `holder`.
+// Behind the others, in chain order, those of the first `n` positions whose dependency stands at `holder`. A dependency
+// stands strictly earlier than what depends on it, so that nothing up to the holder has to be compared.
 fn with_dependents(parents: [u8; 255], n: usize, order: Order, holder: u8) -> Order
-    requires { ⌜ (n ≤ 255) × (order .count ≤ 255) ⌝ }
+    requires { ⌜ (n ≤ 255) × (order .count ≤ 255) × (holder < n) × (dependents parents holder (below (holder + 1)) ≡ []) ⌝ }
     ensures { λ r. ⌜ Lists (take 255 (listed order ++ dependents parents holder (below n))) r ⌝ }
 {
     let mut r = order;
-    let mut p: usize = 0;
+    let mut p: usize = holder as usize + 1;
     while p < n {
         if parents[p] == holder {
             r = appended(r, p as u8);

@@ -11,15 +11,17 @@ use Rattle.components.specs.Chain.{Sound}
 use Rattle.components.proofs.Walk.{kept-length}
 use Rattle.model.proofs.Arrays.{unmap}
 use Rattle.chain.specs.declared.Chain.{Chain}
+use Rattle.chain.specs.Links.{parent}
 use Rattle.chain.specs.Tables.{entries, Charted}
 use Rattle.cascade.specs.declared.Order.{Order}
 use Rattle.cascade.specs.Cascade.{below}
 use Rattle.cascade.specs.Order.{listed}
 use Rattle.cascade.specs.Dependents.{dependents, Lists}
-use Rattle.cascade.proofs.Queue.{kids, Going, begun, onward, over, fits}
+use Rattle.cascade.proofs.Queue.{kids, Going, begun, onward, over, fits, front-within}
 use Rattle.cascade.proofs.Below.{below-within}
+use Rattle.cascade.proofs.Closed.{parent-before}
 use Rattle.cascade.proofs.Once.{cascade-length}
-use Rattle.cascade.proofs.Stored.{small, dependents-children}
+use Rattle.cascade.proofs.Stored.{small, none-found, dependents-children}
 use Rattle.cascade.proofs.Places.{listed-at}
 use Rattle.cascade.proofs.cascade_order.Statement.{statement}
 use Rattle.cascade.proofs.cascade_order.Tie as tie
@@ -31,6 +33,18 @@ module _ (c : Chain) (full : length (c .list .entries) ≡ 255) (t : Charted c) 
       let n : c .list .len ≡ length (entries c) = omega (arith, kept-length (c .list) full, s .few) in
       ap (λ (m : ℕ). dependents (c .parents) h (below m)) n
       ∙ dependents-children (entries c) (c .parents) h (below (length (entries c))) (λ p m. t .parents p (below-within (length (entries c)) p m))
+
+  -- none of them stands up to the component that they depend on,
+  none-before : (h : ℕ) → h < length (entries c) → dependents (c .parents) h (below (h + 1)) ≡ []
+  none-before h w =
+      none-found (c .parents) h (below (h + 1)) (λ p m e.
+      let i = below-within (h + 1) p m in
+      let q : getD (c .parents) p 0 ≡ parent (entries c) p = t .parents p (omega arith) in
+      absurd (omega (arith, q, e, parent-before (c .list .len) (entries c) s p (omega arith) (omega (arith, q, e)))))
+
+  -- the front of the queue is one that they can depend on,
+  front : (k : ℕ) (o : Order) → k < o .count → o .count ≡ length (listed o) → Going (entries c) root k (listed o) → getD (o .at) k 0 < length (entries c)
+  front k o h n g = rw (listed-at o k h) (front-within (c .list .len) (entries c) s root b k (listed o) (omega arith) g)
 
   -- and there is room for them: the queue goes on.
   goes-on : (k : ℕ) (o r : Order) → k < o .count → o .count ≡ length (listed o) → Going (entries c) root k (listed o)
@@ -68,7 +82,12 @@ element-copy-out-holder : tie.Need-element-copy-out-holder Inv-loop μ-loop
 element-copy-out-holder c = omega arith
 
 with-dependents-requires : tie.Need-with-dependents-requires Inv-loop μ-loop
-with-dependents-requires c κs = (c .before .before .before .before .before .pre .1 .few, c .before .before .loop .inv .0)
+with-dependents-requires c κs =
+    let l = c .before .before .loop in
+    let b = c .before .before .before .before .before in
+    let full : length (b .args .chain .list .entries) ≡ 255 = search (needs, unmap) in
+    let w = front (b .args .chain) full (b .pre .0) (b .pre .1) (b .args .root) (b .pre .2) (l .k) (l .order) (omega arith) (l .inv .1) (l .inv .2) in
+    (b .pre .1 .few, l .inv .0, omega (arith, w, kept-length (b .args .chain .list) full, b .pre .1 .few), none-before (b .args .chain) full (b .pre .0) (b .pre .1) (b .args .root) (b .pre .2) _ w)
 
 add-k : tie.Need-add-k Inv-loop μ-loop
 add-k c = omega arith

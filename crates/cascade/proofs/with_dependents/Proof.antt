@@ -1,4 +1,4 @@
--- `with_dependents` meets its contract: up to position p the order has grown by the dependents below p.
+-- `with_dependents` meets its contract: up to position p the order has grown by the dependents below p, of which none stands up to the holder.
 use mathlib.Core.Path.{_≡_, sym}
 use mathlib.Core.Logic.{⊎-elim}
 use mathlib.Core.List.{_++_}
@@ -19,11 +19,14 @@ Inv-loop n holder parents r₀ p₀ r p = (p ≤ n) × Lists (take 255 (listed r
 abbrev μ-loop : tie.MeasureT-loop
 μ-loop n holder parents r₀ p₀ r p = n - p
 
+add-p : tie.Need-add-p Inv-loop μ-loop
+add-p c = omega arith
+
 loop-holds : tie.Need-loop-holds Inv-loop μ-loop
 loop-holds c =
     let o = c .args .order in
     let full : length (o .at) ≡ 255 = search needs in
-    (omega arith, starts (c .args .t1) (c .args .holder) o full (c .pre .1))
+    (omega arith, starts (c .args .t1) (c .args .holder) o full (c .pre .1) _ (c .pre .3))
 
 array-read-if1 : tie.Need-array-read-if1 Inv-loop μ-loop
 array-read-if1 c = search needs
@@ -37,8 +40,8 @@ appended-requires c κs =
     let a = c .before .before .before .args in
     small (listed (a .order) ++ dependents (a .t1) (a .holder) (below (l .p))) (l .r) (l .inv .1)
 
-add-p : tie.Need-add-p Inv-loop μ-loop
-add-p c = omega arith
+add-p-2 : tie.Need-add-p-2 Inv-loop μ-loop
+add-p-2 c = omega arith
 
 loop-less : tie.Need-loop-less Inv-loop μ-loop
 loop-less c = omega arith
@@ -65,11 +68,12 @@ with-dependents-spec =
     (tie.spec
     Inv-loop
     μ-loop
+    add-p
     loop-holds
     array-read-if1
     cast-appended
     appended-requires
-    add-p
+    add-p-2
     loop-less
     loop-again
     returns)
