@@ -1,8 +1,8 @@
 // The components that a cascade gates, in order.
-ghost use mathlib.Core.List.{[], _∷_, _++_};
+ghost use mathlib.Core.List.{[], _++_};
 ghost use mathlib.Core.Path.{_≡_};
 ghost use Prim.Native.Nat.{_+_, _≤_, _<_};
-ghost use lib.ListN.{length, take};
+ghost use lib.ListN.{length};
 ghost use Rattle.components.specs.Chain.{Sound};
 ghost use Rattle.chain.specs.Tables.{entries, Charted};
 ghost use Rattle.cascade.specs.Cascade.{below, cascade};
@@ -16,32 +16,20 @@ pub struct Order {
     pub count: usize,
 }
 
-// One position more, behind the others. A full order stays as it is: the test keeps the index in range, and no
-// cascade of an accepted chain is longer than the array.
-fn appended(mut order: Order, position: u8) -> Order
-    requires { ⌜ order .count ≤ 255 ⌝ }
-    ensures { λ r. ⌜ Lists (take 255 (listed order ++ (position ∷ []))) r ⌝ }
-{
-    let end = order.count;
-    if end < 255 {
-        order.at[end] = position;
-        order.count = end + 1;
-        return order;
-    }
-    order
-}
-
 // Behind the others, in chain order, those of the first `n` positions whose dependency stands at `holder`. A dependency
-// stands strictly earlier than what depends on it, so that nothing up to the holder has to be compared.
+// stands strictly earlier than what depends on it, so that nothing up to the holder has to be compared. The order is
+// changed in place: handing it on for each position would copy it.
 fn with_dependents(parents: [u8; 255], n: usize, order: Order, holder: u8) -> Order
-    requires { ⌜ (n ≤ 255) × (order .count ≤ 255) × (holder < n) × (dependents parents holder (below (holder + 1)) ≡ []) ⌝ }
-    ensures { λ r. ⌜ Lists (take 255 (listed order ++ dependents parents holder (below n))) r ⌝ }
+    requires { ⌜ (n ≤ 255) × (holder < n) × (dependents parents holder (below (holder + 1)) ≡ []) × (order .count ≤ 255) × (length (listed order ++ dependents parents holder (below n)) ≤ 255) ⌝ }
+    ensures { λ r. ⌜ Lists (listed order ++ dependents parents holder (below n)) r ⌝ }
 {
     let mut r = order;
     let mut p: usize = holder as usize + 1;
     while p < n {
         if parents[p] == holder {
-            r = appended(r, p as u8);
+            let end = r.count;
+            r.at[end] = p as u8;
+            r.count = end + 1;
         }
         p += 1;
     }
@@ -57,11 +45,9 @@ pub fn cascade_order(chain: Chain, root: usize) -> Order
     ensures { λ r. ⌜ Lists (cascade (entries chain) root) r ⌝ }
 {
     let parents = chain.parents;
-    let empty = Order {
-        at: [0; 255],
-        count: 0,
-    };
-    let mut order = appended(empty, root as u8);
+    let mut at = [0u8; 255];
+    at[0] = root as u8;
+    let mut order = Order { at: at, count: 1 };
     let mut k: usize = 0;
     while k < order.count {
         let holder = order.at[k];

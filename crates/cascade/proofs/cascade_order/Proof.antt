@@ -1,11 +1,10 @@
 -- `cascade_order` meets its contract: the order is at any moment a queue on its way to the cascade, which is no longer than the chain, so that the array has room for all of it.
-use mathlib.Core.Path.{_≡_, _∙_, ap}
-use mathlib.Core.List.{[], _∷_, _++_}
+use mathlib.Core.Path.{_≡_, refl, _∙_, ap}
+use mathlib.Core.List.{[], _++_}
 use Prim.Native.Nat.{ℕ, suc, _+_, _-_, _≤_, _<_}
 use native.Mathlib.Omega.{arith}
 use native.Mathlib.Numerals.{add-one}
 use lib.ListN.{length, take, getD, length-take}
-use lib.Seq.{take-all}
 use borrow.Author.Needs.{needs}
 use Rattle.components.specs.Chain.{Sound}
 use Rattle.components.proofs.Walk.{kept-length}
@@ -16,12 +15,12 @@ use Rattle.chain.specs.Tables.{entries, Charted}
 use Rattle.cascade.specs.declared.Order.{Order}
 use Rattle.cascade.specs.Cascade.{below}
 use Rattle.cascade.specs.Order.{listed}
-use Rattle.cascade.specs.Dependents.{dependents, Lists}
+use Rattle.cascade.specs.Dependents.{dependents}
 use Rattle.cascade.proofs.Queue.{kids, Going, begun, onward, over, fits, front-within}
 use Rattle.cascade.proofs.Below.{below-within}
 use Rattle.cascade.proofs.Closed.{parent-before}
 use Rattle.cascade.proofs.Once.{cascade-length}
-use Rattle.cascade.proofs.Stored.{small, none-found, dependents-children}
+use Rattle.cascade.proofs.Stored.{none-found, dependents-children}
 use Rattle.cascade.proofs.Places.{listed-at}
 use Rattle.cascade.proofs.cascade_order.Statement.{statement}
 use Rattle.cascade.proofs.cascade_order.Tie as tie
@@ -47,15 +46,19 @@ module _ (c : Chain) (full : length (c .list .entries) ≡ 255) (t : Charted c) 
   front k o h n g = rw (listed-at o k h) (front-within (c .list .len) (entries c) s root b k (listed o) (omega arith) g)
 
   -- and there is room for them: the queue goes on.
-  goes-on : (k : ℕ) (o r : Order) → k < o .count → o .count ≡ length (listed o) → Going (entries c) root k (listed o)
-      → Lists (take 255 (listed o ++ dependents (c .parents) (getD (o .at) k 0) (below (c .list .len)))) r
-      → (r .count ≤ 255) × Going (entries c) root (k + 1) (listed r)
-  goes-on k o r h n g e =
-      let l = listed o ++ kids (entries c) (getD (listed o) k 0) in
-      let more : Going (entries c) root (suc k) l = onward (c .list .len) (entries c) s root k (listed o) (omega arith) g in
-      let room : length l ≤ 255 = omega (arith, length-take (c .list .len) (c .list .entries), s .few, fits (c .list .len) (entries c) s root (suc k) l more, cascade-length (c .list .len) (entries c) s root b) in
-      let q : listed r ≡ l = e .list ∙ rw (listed-at o k h, found (getD (listed o) k 0)) (take-all 255 l room) in
-      (omega (arith, e .count, ap length q), rw (q, add-one k) more)
+  module _ (k : ℕ) (o : Order) (h : k < o .count) (n : o .count ≡ length (listed o)) (g : Going (entries c) root k (listed o)) where
+    more : Going (entries c) root (suc k) (listed o ++ dependents (c .parents) (getD (o .at) k 0) (below (c .list .len)))
+    more = rw (listed-at o k h, found (getD (listed o) k 0)) (onward (c .list .len) (entries c) s root k (listed o) (omega arith) g)
+
+    roomy : length (listed o ++ dependents (c .parents) (getD (o .at) k 0) (below (c .list .len))) ≤ 255
+    roomy =
+        omega (
+          arith,
+          length-take (c .list .len) (c .list .entries),
+          s .few,
+          fits (c .list .len) (entries c) s root (suc k) _ more,
+          cascade-length (c .list .len) (entries c) s root b,
+        )
 
 abbrev Inv-loop : tie.InvT-loop
 Inv-loop chain root parents order₀ k₀ order k = (order .count ≤ 255) × (order .count ≡ length (listed order)) × Going (entries chain) root k (listed order)
@@ -63,20 +66,19 @@ Inv-loop chain root parents order₀ k₀ order k = (order .count ≤ 255) × (o
 abbrev μ-loop : tie.MeasureT-loop
 μ-loop chain root parents order₀ k₀ order k = 255 - k
 
-cast-appended : tie.Need-cast-appended Inv-loop μ-loop
-cast-appended c =
+cast-at : tie.Need-cast-at Inv-loop μ-loop
+cast-at c =
     let l = c .before .args .chain .list in
     omega (arith, c .before .pre .1 .few, c .before .pre .2, length-take (l .len) (l .entries))
 
-appended-requires : tie.Need-appended-requires Inv-loop μ-loop
-appended-requires c κs = omega arith
+array-write-at : tie.Need-array-write-at Inv-loop μ-loop
+array-write-at c = omega arith
 
 loop-holds : tie.Need-loop-holds Inv-loop μ-loop
 loop-holds c =
-    let a = c .before .before .args in
-    let p = c .before .before .pre in
-    let e = c .appended .ensures in
-    (small (a .root ∷ []) (c .appended .result) e, e .count, rw (e .list) (begun (a .chain .list .len) (entries (a .chain)) (p .1) (a .root) (p .2)))
+    let a = c .before .args in
+    let p = c .before .pre in
+    (omega arith, refl, begun (a .chain .list .len) (entries (a .chain)) (p .1) (a .root) (p .2))
 
 element-copy-out-holder : tie.Need-element-copy-out-holder Inv-loop μ-loop
 element-copy-out-holder c = omega arith
@@ -84,10 +86,16 @@ element-copy-out-holder c = omega arith
 with-dependents-requires : tie.Need-with-dependents-requires Inv-loop μ-loop
 with-dependents-requires c κs =
     let l = c .before .before .loop in
-    let b = c .before .before .before .before .before in
-    let full : length (b .args .chain .list .entries) ≡ 255 = search (needs, unmap) in
-    let w = front (b .args .chain) full (b .pre .0) (b .pre .1) (b .args .root) (b .pre .2) (l .k) (l .order) (omega arith) (l .inv .1) (l .inv .2) in
-    (b .pre .1 .few, l .inv .0, omega (arith, w, kept-length (b .args .chain .list) full, b .pre .1 .few), none-before (b .args .chain) full (b .pre .0) (b .pre .1) (b .args .root) (b .pre .2) _ w)
+    let b = c .before .before .before .before in
+    let chain = b .args .chain in
+    let full : length (chain .list .entries) ≡ 255 = search (needs, unmap) in
+    let w = front chain full (b .pre .0) (b .pre .1) (b .args .root) (b .pre .2) (l .k) (l .order) (omega arith) (l .inv .1) (l .inv .2) in (
+      b .pre .1 .few,
+      omega (arith, w, kept-length (chain .list) full, b .pre .1 .few),
+      none-before chain full (b .pre .0) (b .pre .1) (b .args .root) (b .pre .2) _ w,
+      l .inv .0,
+      roomy chain full (b .pre .0) (b .pre .1) (b .args .root) (b .pre .2) (l .k) (l .order) (omega arith) (l .inv .1) (l .inv .2),
+    )
 
 add-k : tie.Need-add-k Inv-loop μ-loop
 add-k c = omega arith
@@ -98,16 +106,18 @@ loop-less c = omega arith
 loop-again : tie.Need-loop-again Inv-loop μ-loop
 loop-again c =
     let l = c .before .before .before .loop in
-    let b = c .before .before .before .before .before .before in
-    let full : length (b .args .chain .list .entries) ≡ 255 = search (needs, unmap) in
+    let b = c .before .before .before .before .before in
+    let chain = b .args .chain in
+    let full : length (chain .list .entries) ≡ 255 = search (needs, unmap) in
     let e = c .with-dependents .ensures in
-    let g = goes-on (b .args .chain) full (b .pre .0) (b .pre .1) (b .args .root) (b .pre .2) (l .k) (l .order) (c .with-dependents .result) (omega arith) (l .inv .1) (l .inv .2) e in
-    (g .0, e .count, g .1)
+    let r = roomy chain full (b .pre .0) (b .pre .1) (b .args .root) (b .pre .2) (l .k) (l .order) (omega arith) (l .inv .1) (l .inv .2) in
+    let g = more chain full (b .pre .0) (b .pre .1) (b .args .root) (b .pre .2) (l .k) (l .order) (omega arith) (l .inv .1) (l .inv .2) in
+    (omega (arith, r, e .count, ap length (e .list)), e .count, rw (e .list, add-one (l .k)) g)
 
 returns : tie.Need-returns Inv-loop μ-loop
 returns c =
     let l = c .before .loop in
-    let b = c .before .before .before .before in
+    let b = c .before .before .before in
     record { list = over (b .args .chain .list .len) (entries (b .args .chain)) (b .pre .1) (b .args .root) (l .k) (listed (l .order)) (omega arith) (l .inv .2); count = l .inv .1 }
 
 pub cascade-order-spec : {M : Type 1} → statement M
@@ -116,8 +126,8 @@ cascade-order-spec =
     (tie.spec
     Inv-loop
     μ-loop
-    cast-appended
-    appended-requires
+    cast-at
+    array-write-at
     loop-holds
     element-copy-out-holder
     with-dependents-requires
