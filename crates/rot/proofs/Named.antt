@@ -1,8 +1,9 @@
--- The step by what the event names: a component of the chain, one outside it, or none.
+-- The step by whom the event is about: a component of the chain, or one outside it; and where there is no rule.
 use mathlib.Core.Path.{_≡_, refl, sym, ap, _∙_}
-use mathlib.Core.Bool.{Bool}
+use mathlib.Core.Bool.{Bool, true, false}
 use mathlib.Core.List.{List}
 use Prim.Native.Nat.{ℕ, _≤_, _<_}
+use native.Mathlib.Omega.{arith}
 use lib.ListN.{length}
 use borrow.Author.Tests.{lt-ltb, le-ltb}
 use Rattle.model.specs.Vocabulary.{pick, named}
@@ -14,25 +15,39 @@ use Rattle.model.specs.declared.OptionId.the-variants.{None, Some}
 use Rattle.model.specs.declared.Event.{Event}
 use Rattle.table.specs.Table.{ruleNo}
 use Rattle.machine.specs.View.{Core, stay}
-use Rattle.numbered.specs.Numbered.{numberedBy}
+use Rattle.numbered.specs.Numbered.{numbered, numberedBy}
 use Rattle.rot.specs.Step.{rule, inChain, stepOf}
-use Rattle.rot.proofs.Numbers.{whom, numbers-right}
+use Rattle.rot.specs.Whom.{whom}
+use Rattle.rot.proofs.Numbers.{numbers-right}
 
-module _ (ch : List Component) (max : ℕ) (c : Core) (e : Event) (i : ComponentId) where
-  -- The rule of the number, for the component that the event names, or for any where it names none.
-  by-number : (o : OptionId) → named e ≡ o → whom i o ≡ i → numberedBy ch max e i (ruleNo (c .state) e) c ≡ rule ch max c e
-  by-number o q w =
-      ap (λ (j : ComponentId). numberedBy ch max e j (ruleNo (c .state) e) c) (sym (ap (whom i) q ∙ w)) ∙ numbers-right ch max i c e
+-- j stands in where the event names no component; it is one of the chain.
+module _ (ch : List Component) (j : ComponentId) (here : position ch j < length ch) where
+  inside : (o : OptionId) → position ch (whom j o) < length ch → inChain ch o ≡ true
+  inside None h = refl
+  inside (Some i) h = lt-ltb (position ch i) (length ch) h
 
-  by-test : (o : OptionId) (t : Bool) → named e ≡ o → inChain ch o ≡ t → stepOf ch max c e ≡ pick t (rule ch max c e) (stay c)
-  unfolding stepOf
-  by-test o t q u = ap (λ (x : Bool). pick x (rule ch max c e) (stay c)) (ap (inChain ch) q ∙ u)
+  outside : (o : OptionId) → length ch ≤ position ch (whom j o) → inChain ch o ≡ false
+  outside None h = absurd (omega arith)
+  outside (Some i) h = le-ltb (position ch i) (length ch) h
 
-  pub step-none : named e ≡ None → numberedBy ch max e i (ruleNo (c .state) e) c ≡ stepOf ch max c e
-  step-none q = by-number None q refl ∙ sym (by-test None _ q refl)
+  module _ (max : ℕ) (c : Core) (e : Event) where
+    pub step-inside : (i : ComponentId) (k : ℕ) → i ≡ whom j (named e) → k ≡ ruleNo (c .state) e → position ch i < length ch → numberedBy ch max e i k c ≡ stepOf ch max c e
+    unfolding stepOf
+    step-inside i k q z h =
+        (λ t. numberedBy ch max e (q t) (z t) c)
+        ∙ numbers-right ch max j c e
+        ∙ sym (ap (λ (t : Bool). pick t (rule ch max c e) (stay c)) (inside (named e) (omega (arith, ap (position ch) q))))
 
-  pub step-inside : named e ≡ Some i → position ch i < length ch → numberedBy ch max e i (ruleNo (c .state) e) c ≡ stepOf ch max c e
-  step-inside q h = by-number (Some i) q refl ∙ sym (by-test (Some i) _ q (lt-ltb (position ch i) (length ch) h))
+    pub step-outside : (i : ComponentId) → i ≡ whom j (named e) → length ch ≤ position ch i → stay c ≡ stepOf ch max c e
+    unfolding stepOf
+    step-outside i q h = sym (ap (λ (t : Bool). pick t (rule ch max c e) (stay c)) (outside (named e) (omega (arith, ap (position ch) q))))
 
-  pub step-outside : named e ≡ Some i → length ch ≤ position ch i → stay c ≡ stepOf ch max c e
-  step-outside q h = sym (by-test (Some i) _ q (le-ltb (position ch i) (length ch) h))
+    pub step-no-rule : ruleNo (c .state) e ≡ 0 → stay c ≡ stepOf ch max c e
+    unfolding stepOf numbered
+    step-no-rule z =
+        let r : stay c ≡ rule ch max c e = ap (λ (k : ℕ). numberedBy ch max e (whom j (named e)) k c) (sym z) ∙ numbers-right ch max j c e in
+        either (inChain ch (named e)) r
+      where
+        either : (t : Bool) → stay c ≡ rule ch max c e → stay c ≡ pick t (rule ch max c e) (stay c)
+        either true r = r
+        either false r = refl

@@ -6,8 +6,6 @@ use Prim.Native.Nat.{ℕ}
 use Rattle.model.specs.Vocabulary.{named}
 use Rattle.model.specs.declared.Component.{Component}
 use Rattle.model.specs.declared.ComponentId.{ComponentId}
-use Rattle.model.specs.declared.OptionId.{OptionId}
-use Rattle.model.specs.declared.OptionId.the-variants.{None, Some}
 use Rattle.model.specs.declared.State.{State}
 use Rattle.model.specs.declared.State.the-variants.{PowerOnReset, PreSupervision, AwaitingReady, Ready, Updating, Recovering, Locked}
 use Rattle.model.specs.declared.Event.{Event}
@@ -17,11 +15,7 @@ use Rattle.machine.specs.declared.ComponentStatus.{ComponentStatus}
 use Rattle.machine.specs.View.{Core}
 use Rattle.numbered.specs.Numbered.{numbered, numberedBy}
 use Rattle.rot.specs.Step.{rule}
-
--- The component that an event names, or j where it names none.
-abbrev pub whom : ComponentId → OptionId → ComponentId
-whom j None = j
-whom j (Some i) = i
+use Rattle.rot.specs.Whom.{whom}
 
 abbrev core : State → ℕ → List ComponentStatus → Bool → Core
 core s p st w = record { state = s; cursor = p; statuses = st; window = w }

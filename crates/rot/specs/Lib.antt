@@ -1,3 +1,4 @@
 -- The definitions that the contracts cite.
 pub mod Step
+pub mod Whom
 pub mod Stepped
