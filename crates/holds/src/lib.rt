@@ -32,7 +32,8 @@ fn hold(w: Work, n: usize, p: usize) -> Work
 }
 
 // The gate at p: the component is held in reset, and reported. One that is isolated already was reported then, so a
-// cascade that comes to it again says nothing.
+// cascade that comes to it again says nothing. Both effects go into the sink before it is put back: the machine is copied
+// once, and not for each.
 pub fn gate_one(chain: Chain, w: Work, p: usize) -> Work
     requires { ⌜ (p < size chain) × (Fit (size chain) (w .rot)) ⌝ }
     ensures { λ r. ⌜ Does (size chain) w (gating (entries chain) p) r ⌝ }
@@ -43,9 +44,11 @@ pub fn gate_one(chain: Chain, w: Work, p: usize) -> Work
         return w;
     }
     let id = chain.id_at(p);
-    let held = hold(w, n, p);
-    let reset = machine::say(held, Effect::AssertReset(id));
-    machine::say(reset, Effect::ReportIsolated(id))
+    let mut held = hold(w, n, p);
+    let sink = held.sink;
+    let reset = store::emitted(sink, Effect::AssertReset(id));
+    held.sink = store::emitted(reset, Effect::ReportIsolated(id));
+    held
 }
 
 // The gate at each position of an order in turn.

@@ -4,8 +4,9 @@ use mathlib.Core.Path.{sym, ap, _∙_, subst}
 use Prim.Native.Nat.{ℕ}
 use Rattle.model.specs.declared.Effect.the-variants.{AssertReset, ReportIsolated}
 use Rattle.chain.specs.Tables.{entries, size}
+use Rattle.store.specs.declared.Sink.{Sink}
 use Rattle.machine.specs.Status.{statusAt, iso}
-use Rattle.machine.specs.View.{coreOf, statusesOf, Fit}
+use Rattle.machine.specs.View.{coreOf, statusesOf, sinkIs, Fit}
 use Rattle.machine.specs.Acts.{Does}
 use Rattle.holds.specs.Acts.{holding}
 use Rattle.machine.proofs.Runs.{ran-none, ran-as, ran-say}
@@ -37,24 +38,24 @@ hold-requires c κs =
     let k = c .before .before .before .before .count .ensures in
     (k .1, omega arith, subst (λ (m : ℕ). Fit m (s .args .w .rot)) (sym (k .0)) (s .pre .1))
 
-say-requires : tie.Need-say-requires
-say-requires c κs = search needs
+emitted-requires : tie.Need-emitted-requires
+emitted-requires c κs = search needs
 
-say-requires-2 : tie.Need-say-requires-2
-say-requires-2 c κs = search needs
+emitted-requires-2 : tie.Need-emitted-requires-2
+emitted-requires-2 c κs = search needs
 
 returns-2 : tie.Need-returns-2
 returns-2 c =
-    let s = c .before .before .before .before .before .before .before .before in
+    let s = c .before .before .before .before .before .before .before .before .before in
     let a = s .args in
-    let k = c .before .before .before .before .before .before .before .count .ensures .0 in
-    let e = ap (λ (m : ℕ). iso (statusAt (statusesOf m (a .w .rot)) (a .p))) (sym k) ∙ sym (c .before .before .before .before .before .is-gated .ensures) ∙ c .before .before .before .before .if1 .left in
-    let id = c .before .before .before .id-at in
-    let held = c .before .before .hold in
+    let k = c .before .before .before .before .before .before .before .before .count .ensures .0 in
+    let e = ap (λ (m : ℕ). iso (statusAt (statusesOf m (a .w .rot)) (a .p))) (sym k) ∙ sym (c .before .before .before .before .before .before .is-gated .ensures) ∙ c .before .before .before .before .before .if1 .left in
+    let id = c .before .before .before .before .id-at in
+    let held = c .before .before .before .hold in
     ran-as (gate-new (entries (a .chain)) (a .p) (coreOf (size (a .chain)) (a .w)) (id .result) (id .ensures) e)
     (ran-say (ReportIsolated (id .result))
-    (ran-say (AssertReset (id .result)) (subst (λ (m : ℕ). Does m (a .w) (holding (a .p)) (held .result)) k (held .ensures)) (c .before .say .ensures))
-    (c .say2 .ensures))
+    (ran-say (AssertReset (id .result)) (subst (λ (m : ℕ). Does m (a .w) (holding (a .p)) (held .result)) k (held .ensures)) (ap (λ (x : Sink). sinkIs x (held .result)) (c .before .emitted .ensures)))
+    (ap (λ (x : Sink). sinkIs x (held .result)) (c .emitted2 .ensures)))
 
 pub gate-one-spec : {M : Type 1} → statement M
 gate-one-spec =
@@ -65,6 +66,6 @@ gate-one-spec =
     returns
     id-at-requires
     hold-requires
-    say-requires
-    say-requires-2
+    emitted-requires
+    emitted-requires-2
     returns-2)
