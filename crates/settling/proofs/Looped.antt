@@ -50,10 +50,10 @@ module _ (ch : List Component) (max : ℕ) where
 -- At most 512 effects are left, so that 521 turns are enough.
 left-few : (m : Machine) → Whole m → length (view m .left) ≤ 512
 unfolding view held
-left-few m w = omega (arith, w .room, length-drop (m .next) (held (m .batch)), length-map (take (m .batch .len) (m .batch .effects)) effectOf, length-take (m .batch .len) (m .batch .effects))
+left-few m w = omega (arith, w .room, length-drop (m .dispatch .next) (held (m .work .sink)), length-map (take (m .work .sink .len) (m .work .sink .effects)) effectOf, length-take (m .work .sink .len) (m .work .sink .effects))
 
 -- While an effect waits, no number of turns changes anything.
-enough-by : (m : Machine) → Whole m → (w : Waiting) → m .waiting ≡ w → turning m 521 ≡ settle (chainOf m) (m .«max_retry») (view m) .machine
+enough-by : (m : Machine) → Whole m → (w : Waiting) → m .dispatch .waiting ≡ w → turning m 521 ≡ settle (chainOf m) (m .«max_retry») (view m) .machine
 unfolding settle
 enough-by m w Nothing h = ap (λ (r : Run). r .machine) (settle-turns (chainOf m) (m .«max_retry») (view m) (view-waiting m ∙ h) (view-few m w) 521 (omega (arith, left-few m w)))
 enough-by m w (Handed x) h =
@@ -65,7 +65,7 @@ enough-by m w (Handed x) h =
     fixed ch max 521 start still ∙ sym (fixed ch max (length (v .left) + 9) start still)
 
 pub turned-enough : (m : Machine) → Whole m → turning m 521 ≡ settle (chainOf m) (m .«max_retry») (view m) .machine
-turned-enough m w = enough-by m w (m .waiting) refl
+turned-enough m w = enough-by m w (m .dispatch .waiting) refl
 
 pub turned-rested : (m v : Machine) (n : ℕ) → Whole m → n ≤ 521 → Becomes m (turning m n) v → Rested v → Becomes m (settle (chainOf m) (m .«max_retry») (view m) .machine) v
 turned-rested m v n w l b s =

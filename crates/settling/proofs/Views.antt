@@ -24,33 +24,45 @@ use Rattle.pending.specs.declared.OptionEvent.{OptionEvent}
 use Rattle.pending.specs.declared.OptionEvent.the-variants.{NoEvent, OneEvent}
 use Rattle.pending.specs.Queue.{events, firstOf, rest, atBack, latched, emits}
 use Rattle.machine.specs.declared.Work.{Work}
+use Rattle.machine.specs.View.{Core}
 use Rattle.entry.specs.Premise.{Sane}
 use Rattle.rot.specs.Stepped.{bare, Stepped}
+use Rattle.settling.specs.declared.Dispatch.{Dispatch}
 use Rattle.settling.specs.declared.Machine.{Machine}
 use Rattle.settling.specs.declared.Waiting.{Waiting}
 use Rattle.settling.specs.declared.Waiting.the-variants.{Nothing, Handed}
 use Rattle.settling.specs.Settle.{Model, waitingIs, leftIs, queueIs, failedIs, latch, fail, enqueue, handOut, take·front, turnBy, turnOf, takenBy, nextEvent}
-use Rattle.settling.specs.View.{view, chainOf, Whole, Becomes}
-use Rattle.settling.specs.Parts.{waits, nextEffect, after}
+use Rattle.settling.specs.View.{view, within, chainOf, Short, Whole, Becomes}
+use Rattle.settling.specs.Parts.{waits, Moves, Taken}
 use Rattle.settling.proofs.Ends.{Few, latch-few, enqueue-few}
 
--- A machine with another place in its batch, another queue, another mark of failure.
-abbrev pub nexts : ℕ → Machine → Machine
-nexts k m = record { chain = m .chain; «max_retry» = m .«max_retry»; state = m .state; rot = m .rot; batch = m .batch; next = k; waiting = m .waiting; pending = m .pending; failed = m .failed }
+-- A dispatch with another place in its batch, another queue and another mark of failure; a machine with another dispatch.
+abbrev pub nexts : ℕ → Dispatch → Dispatch
+nexts k d = record { next = k; waiting = d .waiting; pending = d .pending; failed = d .failed }
 
-abbrev pub pends : Pending → Bool → Machine → Machine
-pends p b m = record { chain = m .chain; «max_retry» = m .«max_retry»; state = m .state; rot = m .rot; batch = m .batch; next = m .next; waiting = m .waiting; pending = p; failed = b }
+abbrev pub pends : Pending → Bool → Dispatch → Dispatch
+pends p b d = record { next = d .next; waiting = d .waiting; pending = p; failed = b }
+
+abbrev pub puts : Dispatch → Machine → Machine
+puts d m = record { chain = m .chain; «max_retry» = m .«max_retry»; work = m .work; dispatch = d }
+
+-- The next effect of the batch, and those after it.
+abbrev pub nextEffect : Machine → Effect
+nextEffect m = effectAt (m .work .sink) (m .dispatch .next)
+
+abbrev pub after : Machine → List Effect
+after m = drop (m .dispatch .next + 1) (held (m .work .sink))
 
 -- The parts of a view.
-pub view-waiting : (m : Machine) → view m .waiting ≡ m .waiting
+pub view-waiting : (m : Machine) → view m .waiting ≡ m .dispatch .waiting
 unfolding view
 view-waiting m = refl
 
-pub view-queue : (m : Machine) → view m .queue ≡ events (m .pending)
+pub view-queue : (m : Machine) → view m .queue ≡ events (m .dispatch .pending)
 unfolding view
 view-queue m = refl
 
-pub view-failed : (m : Machine) → view m .failed ≡ m .failed
+pub view-failed : (m : Machine) → view m .failed ≡ m .dispatch .failed
 unfolding view
 view-failed m = refl
 
@@ -68,37 +80,43 @@ becomes-then f a b = record { machine = b .machine ∙ ap f (a .machine); chain 
 pub becomes-same : (m : Machine) → Whole m → Becomes m (view m) m
 becomes-same m w = record { machine = refl; chain = refl; maxRetry = refl; whole = w }
 
+-- What is done to a dispatch, one after the other or in other words.
+module _ {len : ℕ} where
+  pub moves-as : {f g : List Effect → Model → Model} {d r : Dispatch} → Moves len f d r → ((c : Core) (es : List Effect) → f es (within c es d) ≡ g es (within c es d)) → Moves len g d r
+  moves-as b e = record { machine = λ c es h. b .machine c es h ∙ e c es; few = b .few }
+
+  pub moves-then : {f : List Effect → Model → Model} {d v r : Dispatch} (g : List Effect → Model → Model) → Moves len f d v → Moves len g v r → Moves len (λ es x. g es (f es x)) d r
+  moves-then g a b = record { machine = λ c es h. b .machine c es h ∙ ap (g es) (a .machine c es h); few = b .few }
+
+  pub moves-same : (d : Dispatch) → Short d → Moves len (λ es x. x) d d
+  moves-same d h = record { machine = λ c es k. refl; few = h }
+
+  pub waits-moves : (d v : Dispatch) → Short d → (u : Waiting) → v ≡ waits u d → Moves len (λ es. waitingIs u) d v
+  waits-moves d v h u e = record { machine = λ c es k. ap (within c es) e; few = subst Short (sym e) h }
+
+  pub pends-moves : (d : Dispatch) (p : Pending) (b : Bool) (f : List Event → List Event) → events p ≡ f (events (d .pending)) → length (f (events (d .pending))) ≤ 8 → Moves len (λ es x. failedIs b (queueIs (f (x .queue)) x)) d (pends p b d)
+  pends-moves d p b f e h = record { machine = λ c es k. ap (λ (l : List Event). failedIs b (queueIs l (within c es d))) e; few = subst (λ (l : List Event). length l ≤ 8) (sym e) h }
+
 module _ (m : Machine) (w : Whole m) where
-  pub waits-becomes : (u : Waiting) → Becomes m (waitingIs u (view m)) (waits u m)
-  unfolding view
-  waits-becomes u = record { machine = refl; chain = refl; maxRetry = refl; whole = record { sane = w .sane; room = w .room; few = w .few } }
-
-  pub nexts-becomes : (k : ℕ) (es : List Effect) → drop k (held (m .batch)) ≡ es → Becomes m (leftIs es (view m)) (nexts k m)
-  unfolding view
-  nexts-becomes k es e = record { machine = ap (λ (l : List Effect). leftIs l (view m)) e; chain = refl; maxRetry = refl; whole = record { sane = w .sane; room = w .room; few = w .few } }
-
-  pub pends-becomes : (p : Pending) (b : Bool) (q : List Event) → events p ≡ q → length q ≤ 8 → Becomes m (failedIs b (queueIs q (view m))) (pends p b m)
-  unfolding view
-  pends-becomes p b q e h = record { machine = ap (λ (l : List Event). failedIs b (queueIs l (view m))) e; chain = refl; maxRetry = refl; whole = record { sane = w .sane; room = w .room; few = subst (λ (l : List Event). length l ≤ 8) (sym e) h } }
-
   -- Nothing is left of a batch whose end is reached, and else the next effect and those after it.
-  held-short : length (held (m .batch)) ≤ m .batch .len
+  held-short : length (held (m .work .sink)) ≤ m .work .sink .len
   unfolding held
-  held-short = omega (arith, length-map (take (m .batch .len) (m .batch .effects)) effectOf, length-take (m .batch .len) (m .batch .effects))
+  held-short = omega (arith, length-map (take (m .work .sink .len) (m .work .sink .effects)) effectOf, length-take (m .work .sink .len) (m .work .sink .effects))
 
-  pub none-from : (k : ℕ) → m .batch .len ≤ k → drop k (held (m .batch)) ≡ []
-  none-from k h = drop-of-length-le (held (m .batch)) {i = k} (omega (arith, held-short))
-
-  pub left-none : m .batch .len ≤ m .next → view m .left ≡ []
+  pub moves-becomes : (f : List Effect → Model → Model) (r : Dispatch) → Moves (m .work .sink .len) f (m .dispatch) r → Becomes m (f (held (m .work .sink)) (view m)) (puts r m)
   unfolding view
-  left-none h = none-from (m .next) h
+  moves-becomes f r b = record { machine = b .machine _ (held (m .work .sink)) held-short; chain = refl; maxRetry = refl; whole = record { sane = w .sane; room = w .room; few = b .few } }
 
-  pub left-some : length (m .batch .effects) ≡ 512 → m .next < m .batch .len → view m .left ≡ nextEffect m ∷ after m
+  pub left-none : m .work .sink .len ≤ m .dispatch .next → view m .left ≡ []
+  unfolding view
+  left-none h = drop-of-length-le (held (m .work .sink)) {i = m .dispatch .next} (omega (arith, held-short))
+
+  pub left-some : length (m .work .sink .effects) ≡ 512 → m .dispatch .next < m .work .sink .len → view m .left ≡ nextEffect m ∷ after m
   unfolding view
   left-some f h =
-      let n : length (held (m .batch)) ≡ m .batch .len = held-length (m .batch) f (w .room) in
-      drop-cons (held (m .batch)) (m .next) LatchLockdown (omega arith)
-      ∙ (λ j. sym (at-held (m .batch) (m .next) h) j ∷ drop (sym (add-one (m .next)) j) (held (m .batch)))
+      let n : length (held (m .work .sink)) ≡ m .work .sink .len = held-length (m .work .sink) f (w .room) in
+      drop-cons (held (m .work .sink)) (m .dispatch .next) LatchLockdown (omega arith)
+      ∙ (λ j. sym (at-held (m .work .sink) (m .dispatch .next) h) j ∷ drop (sym (add-one (m .dispatch .next)) j) (held (m .work .sink)))
 
 -- An event for the queue: it fits, or it is lost and nothing new fails, or it is the first failure.
 module _ (e : Event) (x : Model) where
@@ -132,16 +150,15 @@ pub taken-by : (x : Model) (w : Waiting) (es : List Effect) (q : List Event) →
 taken-by x w es q a b c = λ j. takenBy (a j) (b j) (c j)
 
 -- The next effect x of the batch is handed out, or its event is queued.
-module _ (m : Machine) (w : Whole m) (x : Effect) (same : x ≡ nextEffect m) (o : OptionEvent) (told : o ≡ emits x) where
-  onward : Becomes m (leftIs (after m) (view m)) (nexts (m .next + 1) m)
-  onward = nexts-becomes m w (m .next + 1) (after m) refl
+module _ (d : Dispatch) (x : Effect) (o : OptionEvent) (told : o ≡ emits x) where
+  abbrev handing : List Effect → Model → Model
+  handing es y = handOut x (drop (d .next + 1) es) y (emits x)
 
-  pub handed : o ≡ NoEvent → (r : Machine) → r ≡ waits (Handed x) (nexts (m .next + 1) m) → Becomes m (handOut (nextEffect m) (after m) (view m) (emits (nextEffect m))) r
-  handed h r e = subst (Becomes m (handOut (nextEffect m) (after m) (view m) (emits (nextEffect m)))) (sym e)
-      (becomes-as (becomes-then (waitingIs (Handed x)) onward (waits-becomes (nexts (m .next + 1) m) (onward .whole) (Handed x))) (λ j. handOut (same j) (after m) (view m) ((sym h ∙ told ∙ ap emits same) j)))
+  pub handed : {len : ℕ} → Short d → o ≡ NoEvent → (r : Dispatch) → r ≡ waits (Handed x) (nexts (d .next + 1) d) → Moves len handing d r
+  handed w h r e = record { machine = λ c es k. ap (within c es) e ∙ (λ j. handOut x (drop (d .next + 1) es) (within c es d) ((sym h ∙ told) j)); few = subst Short (sym e) w }
 
-  pub queued : (e : Event) → o ≡ OneEvent e → (r : Machine) → Becomes (nexts (m .next + 1) m) (enqueue e (view (nexts (m .next + 1) m))) r → Becomes m (handOut (nextEffect m) (after m) (view m) (emits (nextEffect m))) r
-  queued e h r b = becomes-as (becomes-then (enqueue e) onward b) (λ j. handOut (same j) (after m) (view m) ((sym h ∙ told ∙ ap emits same) j))
+  pub queued : {len : ℕ} (e : Event) → o ≡ OneEvent e → (r : Dispatch) → Moves len (λ es. enqueue e) (nexts (d .next + 1) d) r → Moves len handing d r
+  queued e h r b = record { machine = λ c es k. b .machine c es k ∙ (λ j. handOut x (drop (d .next + 1) es) (within c es d) ((sym h ∙ told) j)); few = b .few }
 
 -- Of an empty batch the front event is taken, if there is one.
 pub taken-front : (q : List Event) → firstOf q ≡ takenBy Nothing [] q
@@ -160,24 +177,24 @@ never h = let z : _≡_ {A = ℕ} 0 1 = cc in absurd (omega arith)
 chain-few : (c : Chain) (w : Work) → Sane c w → size c ≤ 255
 chain-few c w s = omega (arith, length-take (c .list .len) (c .list .entries), s .sound .few)
 
-module _ (m : Machine) (w : Whole m) (e : Event) (s : Work) (p : Pending) where
-  abbrev stepped : Machine
-  stepped = record { chain = m .chain; «max_retry» = m .«max_retry»; state = s .state; rot = s .rot; batch = s .sink; next = 0; waiting = m .waiting; pending = p; failed = m .failed }
+module _ (m : Machine) (w : Whole m) (e : Event) (s : Work) (d : Dispatch) where
+  abbrev pub steppedTo : Machine
+  steppedTo = record { chain = m .chain; «max_retry» = m .«max_retry»; work = s; dispatch = d }
 
   short : (q : List Event) → length q ≤ 8 → length (rest q) ≤ 8
   short [] h = omega arith
   short (x ∷ q) h = omega arith
 
-  pub stepped-becomes : Stepped (m .chain) (m .«max_retry») (bare (m .state) (m .rot)) e s → events p ≡ rest (events (m .pending))
-      → Becomes m (take·front (chainOf m) (m .«max_retry») e (rest (view m .queue)) (view m)) stepped
+  pub stepped-becomes : Stepped (m .chain) (m .«max_retry») (bare (m .work .state) (m .work .rot)) e s → Taken (m .dispatch) d
+      → Becomes m (take·front (chainOf m) (m .«max_retry») e (rest (view m .queue)) (view m)) steppedTo
   unfolding view
-  stepped-becomes g h = record {
-    machine = λ j. record { core = g .core j; waiting = m .waiting; left = g .effects j; queue = h j; failed = m .failed };
+  stepped-becomes g t = record {
+    machine = λ j. record { core = g .core j; waiting = t .waiting j; left = drop (t .next j) (g .effects j); queue = t .queue j; failed = t .failed j };
     chain = refl;
     maxRetry = refl;
     whole = record {
       sane = record { charted = w .sane .charted; sound = w .sane .sound; fit = g .fit };
-      room = omega (arith, g .few, chain-few (m .chain) (bare (m .state) (m .rot)) (w .sane));
-      few = subst (λ (l : List Event). length l ≤ 8) (sym h) (short (events (m .pending)) (w .few));
+      room = omega (arith, g .few, chain-few (m .chain) (bare (m .work .state) (m .work .rot)) (w .sane));
+      few = subst (λ (l : List Event). length l ≤ 8) (sym (t .queue)) (short (events (m .dispatch .pending)) (w .few));
     };
   }

@@ -11,16 +11,21 @@ use Rattle.chain.specs.Tables.{entries, size}
 use Rattle.store.specs.Sink.{held}
 use Rattle.pending.specs.Queue.{events, emits}
 use Rattle.pending.specs.declared.OptionEvent.the-variants.{NoEvent}
-use Rattle.machine.specs.View.{coreOf}
+use Rattle.machine.specs.View.{Core, coreOf}
 use Rattle.entry.specs.Premise.{Sane}
 use Rattle.rot.specs.Stepped.{bare}
+use Rattle.settling.specs.declared.Dispatch.{Dispatch}
 use Rattle.settling.specs.declared.Machine.{Machine}
 use Rattle.settling.specs.declared.Waiting.{Waiting}
 use Rattle.settling.specs.declared.Waiting.the-variants.{Nothing, Handed}
 use Rattle.settling.specs.Settle.{Model}
 
+-- What a dispatch keeps, read beside what the rules see and the effects of the batch.
+abbrev pub within : Core → List Effect → Dispatch → Model
+within c es d = record { core = c; waiting = d .waiting; left = drop (d .next) es; queue = events (d .pending); failed = d .failed }
+
 unfoldable pub view : Machine → Model
-view m = record { core = coreOf (size (m .chain)) (bare (m .state) (m .rot)); waiting = m .waiting; left = drop (m .next) (held (m .batch)); queue = events (m .pending); failed = m .failed }
+view m = within (coreOf (size (m .chain)) (bare (m .work .state) (m .work .rot))) (held (m .work .sink)) (m .dispatch)
 
 -- The chain that a machine was made for, as a list.
 abbrev pub chainOf : Machine → List Component
@@ -28,10 +33,13 @@ chainOf m = entries (m .chain)
 
 -- Within and between calls: an accepted chain with its own tables, nothing isolated past it, the cursor within it or at its end, at
 -- most 512 effects and 8 events.
+abbrev pub Short : Dispatch → Type 0
+Short d = length (events (d .pending)) ≤ 8
+
 pub record Whole (m : Machine) : Type 0 where
-  pub sane : Sane (m .chain) (bare (m .state) (m .rot))
-  pub room : m .batch .len ≤ 512
-  pub few : length (events (m .pending)) ≤ 8
+  pub sane : Sane (m .chain) (bare (m .work .state) (m .work .rot))
+  pub room : m .work .sink .len ≤ 512
+  pub few : Short (m .dispatch)
 
 -- r is a machine for the same chain and max_retry as m, and it is read as x.
 pub record Becomes (m : Machine) (x : Model) (r : Machine) : Type 0 where

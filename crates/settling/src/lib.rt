@@ -1,20 +1,19 @@
 // Settling: the machine between and within calls, one turn of it, and turns up to the next effect or the end.
 ghost use mathlib.Core.Path.{_≡_};
-ghost use mathlib.Core.Bool.{true};
+ghost use mathlib.Core.Bool.{true, false};
 ghost use mathlib.Core.List.{[]};
-ghost use Prim.Native.Nat.{_<_};
+ghost use Prim.Native.Nat.{ℕ, _+_, _<_};
+ghost use lib.ListN.{drop};
 ghost use Rattle.pending.specs.Queue.{emits, rest};
-ghost use Rattle.settling.specs.Settle.{waitingIs, leftIs, latch, fail, enqueue, replied, handOut, take·front, turnOf, nextEvent, settle};
-ghost use Rattle.settling.specs.View.{view, chainOf, Whole, Becomes};
-ghost use Rattle.settling.specs.Parts.{waits, nextEffect, after, Rested};
+ghost use Rattle.settling.specs.Settle.{waitingIs, leftIs, failedIs, latch, fail, enqueue, replied, handOut, take·front, turnOf, nextEvent, settle};
+ghost use Rattle.settling.specs.View.{view, chainOf, Short, Whole, Becomes};
+ghost use Rattle.settling.specs.Parts.{waits, Moves, Taken, Rested};
 use chain::Chain;
-use machine::Rot;
+use machine::Work;
 use model::Effect;
 use model::Event;
-use model::State;
 use pending::OptionEvent;
 use pending::Pending;
-use store::Sink;
 
 // The effect that waits for its reply.
 pub enum Waiting {
@@ -29,58 +28,53 @@ pub enum Reply {
     Failed,
 }
 
-// The effects of the batch are those in the sink; those from place `next` on are not handed out yet.
-pub struct Machine {
-    pub chain: Chain,
-    pub max_retry: u8,
-    pub state: State,
-    pub rot: Rot,
-    pub batch: Sink,
+// What a dispatch keeps, in the source the locals of `dispatch_with`: the place in the batch of the effect that is handed
+// out next, the effect that waits for its reply, the queue, and whether the dispatch has failed.
+pub struct Dispatch {
     pub next: usize,
     pub waiting: Waiting,
     pub pending: Pending,
     pub failed: bool,
 }
 
-// A field that is an enum is not stored to: the machine is built anew.
-fn with_waiting(m: Machine, waiting: Waiting) -> Machine
-    ensures { λ r. ⌜ r ≡ waits waiting m ⌝ }
+// The effects of the batch are those in the sink of the work. What a dispatch keeps is a part by itself, so that a turn that
+// settles no event stores some bytes and copies no machine.
+pub struct Machine {
+    pub chain: Chain,
+    pub max_retry: u8,
+    pub work: Work,
+    pub dispatch: Dispatch,
+}
+
+// A field that is an enum is not stored to: the dispatch is built anew.
+fn with_waiting(d: Dispatch, waiting: Waiting) -> Dispatch
+    ensures { λ r. ⌜ r ≡ waits waiting d ⌝ }
 {
-    let chain = m.chain;
-    let state = m.state;
-    let rot = m.rot;
-    let batch = m.batch;
-    let pending = m.pending;
-    Machine {
-        chain: chain,
-        max_retry: m.max_retry,
-        state: state,
-        rot: rot,
-        batch: batch,
-        next: m.next,
+    let pending = d.pending;
+    Dispatch {
+        next: d.next,
         waiting: waiting,
         pending: pending,
-        failed: m.failed,
+        failed: d.failed,
     }
 }
 
-// The batch ends: what is left of it is not handed out.
-fn end_batch(m: Machine) -> Machine
-    requires { ⌜ Whole m ⌝ }
-    ensures { λ r. ⌜ Becomes m (leftIs [] (view m)) r ⌝ }
+// The batch of `len` effects ends: what is left of it is not handed out.
+fn end_batch(d: Dispatch, len: usize) -> Dispatch
+    requires { ⌜ Short d ⌝ }
+    ensures { λ r. ⌜ Moves len (λ es. leftIs []) d r ⌝ }
 {
-    let batch = m.batch;
-    let mut v = m;
-    v.next = batch.len;
+    let mut v = d;
+    v.next = len;
     v
 }
 
 // The first failure in a dispatch.
-fn latch(m: Machine) -> Machine
-    requires { ⌜ Whole m ⌝ }
-    ensures { λ r. ⌜ Becomes m (latch (view m)) r ⌝ }
+fn latch(d: Dispatch, len: usize) -> Dispatch
+    requires { ⌜ Short d ⌝ }
+    ensures { λ r. ⌜ Moves len (λ es. latch) d r ⌝ }
 {
-    let mut v = end_batch(m);
+    let mut v = end_batch(d, len);
     let pending = v.pending;
     let latched = pending.latch();
     v.pending = latched;
@@ -89,63 +83,83 @@ fn latch(m: Machine) -> Machine
 }
 
 // A failed reply. Later failures in the dispatch only end their batch.
-fn fail(m: Machine) -> Machine
-    requires { ⌜ Whole m ⌝ }
-    ensures { λ r. ⌜ Becomes m (fail (view m)) r ⌝ }
+fn fail(d: Dispatch, len: usize) -> Dispatch
+    requires { ⌜ Short d ⌝ }
+    ensures { λ r. ⌜ Moves len (λ es. fail) d r ⌝ }
 {
-    if m.failed {
-        return end_batch(m);
+    if d.failed {
+        return end_batch(d, len);
     }
-    latch(m)
+    latch(d, len)
 }
 
 // An event to the back of the queue. One that finds 8 queued is lost: that is the first failure, if there was none; after
 // one, the batch goes on.
-pub fn enqueue(m: Machine, event: Event) -> Machine
-    requires { ⌜ Whole m ⌝ }
-    ensures { λ r. ⌜ Becomes m (enqueue event (view m)) r ⌝ }
+pub fn enqueue(d: Dispatch, len: usize, event: Event) -> Dispatch
+    requires { ⌜ Short d ⌝ }
+    ensures { λ r. ⌜ Moves len (λ es. enqueue event) d r ⌝ }
 {
-    let pending = m.pending;
+    let pending = d.pending;
     if pending.count() < 8 {
-        let mut v = m;
+        let mut v = d;
         let longer = pending.push_back(event);
         v.pending = longer;
         return v;
     }
-    if m.failed {
-        return m;
+    if d.failed {
+        return d;
     }
-    latch(m)
+    latch(d, len)
 }
 
 // The waiting effect is answered; it waits no more.
-pub fn replied(m: Machine, reply: Reply) -> Machine
-    requires { ⌜ Whole m ⌝ }
-    ensures { λ r. ⌜ Becomes m (replied reply (waitingIs Waiting.Nothing (view m))) r ⌝ }
+pub fn replied(d: Dispatch, len: usize, reply: Reply) -> Dispatch
+    requires { ⌜ Short d ⌝ }
+    ensures { λ r. ⌜ Moves len (λ es x. replied reply (waitingIs Waiting.Nothing x)) d r ⌝ }
 {
-    let v = with_waiting(m, Waiting::Nothing);
+    let v = with_waiting(d, Waiting::Nothing);
     match reply {
         Reply::Done => v,
-        Reply::Then(event) => enqueue(v, event),
-        Reply::Failed => fail(v),
+        Reply::Then(event) => enqueue(v, len, event),
+        Reply::Failed => fail(v, len),
     }
 }
 
 // The next effect of the batch: Emit's event is queued, any other effect is handed out.
-fn hand_out(m: Machine) -> Machine
-    requires { ⌜ (Whole m) × (m .next < m .batch .len) ⌝ }
-    ensures { λ r. ⌜ Becomes m (handOut (nextEffect m) (after m) (view m) (emits (nextEffect m))) r ⌝ }
+pub fn hand_out(d: Dispatch, len: usize, effect: Effect) -> Dispatch
+    requires { ⌜ (Short d) × (d .next < len) ⌝ }
+    ensures { λ r. ⌜ Moves len (λ es x. handOut effect (drop (d .next + 1) es) x (emits effect)) d r ⌝ }
 {
-    let batch = m.batch;
-    let at = m.next;
-    let effect = batch.get(at);
-    let mut v = m;
+    let at = d.next;
+    let mut v = d;
     v.next = at + 1;
     let emitted = pending::emitted_event(effect);
     match emitted {
         OptionEvent::NoEvent => with_waiting(v, Waiting::Handed(effect)),
-        OptionEvent::OneEvent(event) => enqueue(v, event),
+        OptionEvent::OneEvent(event) => enqueue(v, len, event),
     }
+}
+
+// The front event is taken from the queue; the batch of its effects is not begun.
+pub fn taken(d: Dispatch) -> Dispatch
+    ensures { λ r. ⌜ Taken d r ⌝ }
+{
+    let pending = d.pending;
+    let shorter = pending.pop_front();
+    let mut v = d;
+    v.next = 0;
+    v.pending = shorter;
+    v
+}
+
+// The dispatch has ended, and it counts as failed no more.
+pub fn rested(d: Dispatch) -> Dispatch
+    requires { ⌜ Short d ⌝ }
+    ensures { λ r. ⌜ ((len : ℕ) → Moves len (λ es. failedIs false) d r) ⌝ }
+{
+    let mut v = d;
+    v.failed = false;
+    v
 }
 
 // The front event is taken and settled: a step, whose effects are the batch.
@@ -154,26 +168,16 @@ fn take_front(m: Machine, event: Event) -> Machine
     ensures { λ r. ⌜ Becomes m (take·front (chainOf m) (m .«max_retry») event (rest (view m .queue)) (view m)) r ⌝ }
 {
     let chain = m.chain;
-    let max_retry = m.max_retry;
-    let state = m.state;
-    let rot = m.rot;
-    let waiting = m.waiting;
-    let pending = m.pending;
-    let w = rot::step(chain, max_retry, state, rot, event);
-    let next_state = w.state;
-    let next_rot = w.rot;
-    let batch = w.sink;
-    Machine {
-        chain: chain,
-        max_retry: max_retry,
-        state: next_state,
-        rot: next_rot,
-        batch: batch,
-        next: 0,
-        waiting: waiting,
-        pending: pending.pop_front(),
-        failed: m.failed,
-    }
+    let work = m.work;
+    let state = work.state;
+    let rot = work.rot;
+    let stepped = rot::step(chain, m.max_retry, state, rot, event);
+    let d = m.dispatch;
+    let after = taken(d);
+    let mut v = m;
+    v.work = stepped;
+    v.dispatch = after;
+    v
 }
 
 // The event that a turn would take.
@@ -181,15 +185,15 @@ pub fn next_event(m: Machine) -> OptionEvent
     requires { ⌜ Whole m ⌝ }
     ensures { λ r. ⌜ r ≡ nextEvent (view m) ⌝ }
 {
-    let waiting = m.waiting;
+    let d = m.dispatch;
+    let waiting = d.waiting;
     match waiting {
         Waiting::Handed(_) => OptionEvent::NoEvent,
         Waiting::Nothing => {
-            let batch = m.batch;
-            if m.next < batch.len {
+            if d.next < m.work.sink.len {
                 return OptionEvent::NoEvent;
             }
-            let pending = m.pending;
+            let pending = d.pending;
             pending.front()
         }
     }
@@ -201,20 +205,26 @@ pub fn turn(m: Machine) -> Machine
     requires { ⌜ Whole m ⌝ }
     ensures { λ r. ⌜ Becomes m (turnOf (chainOf m) (m .«max_retry») (view m)) r ⌝ }
 {
-    let waiting = m.waiting;
+    let d = m.dispatch;
+    let waiting = d.waiting;
     match waiting {
         Waiting::Handed(_) => m,
         Waiting::Nothing => {
-            let batch = m.batch;
-            if m.next < batch.len {
-                return hand_out(m);
+            let sink = m.work.sink;
+            if d.next < sink.len {
+                let effect = sink.get(d.next);
+                let after = hand_out(d, sink.len, effect);
+                let mut v = m;
+                v.dispatch = after;
+                return v;
             }
-            let pending = m.pending;
+            let pending = d.pending;
             let front = pending.front();
             match front {
                 OptionEvent::NoEvent => {
+                    let after = rested(d);
                     let mut v = m;
-                    v.failed = false;
+                    v.dispatch = after;
                     v
                 }
                 OptionEvent::OneEvent(event) => take_front(m, event),
@@ -228,19 +238,19 @@ fn at_rest(m: Machine) -> bool
     requires { ⌜ Whole m ⌝ }
     ensures { λ r. ⌜ (r ≡ true → Rested m) ⌝ }
 {
-    let waiting = m.waiting;
+    let d = m.dispatch;
+    let waiting = d.waiting;
     match waiting {
         Waiting::Handed(_) => true,
         Waiting::Nothing => {
-            let batch = m.batch;
-            if m.next < batch.len {
+            if d.next < m.work.sink.len {
                 return false;
             }
-            let pending = m.pending;
+            let pending = d.pending;
             if 0 < pending.count() {
                 return false;
             }
-            !m.failed
+            !d.failed
         }
     }
 }

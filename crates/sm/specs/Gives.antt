@@ -4,14 +4,17 @@ use mathlib.Core.Bool.{false}
 use Prim.Native.Nat.{ℕ, _≤_}
 use lib.ListN.{length, replicate}
 use Rattle.components.specs.Chain.{entriesOf, noEntries, verdictOf, answerOf}
+use Rattle.model.specs.declared.State.{State}
 use Rattle.model.specs.declared.State.the-variants.{Locked}
 use Rattle.chain.specs.declared.Chain.{Chain}
 use Rattle.store.specs.Sink.{emptySink}
 use Rattle.pending.specs.Queue.{noEvents}
 use Rattle.machine.specs.View.{newRot}
+use Rattle.machine.specs.declared.Work.{Work}
 use Rattle.settling.specs.declared.Waiting.the-variants.{Nothing}
 use Rattle.components.specs.declared.ComponentList.{ComponentList}
 use Rattle.components.specs.declared.Verdict.the-variants.{Accepted}
+use Rattle.settling.specs.declared.Dispatch.{Dispatch}
 use Rattle.settling.specs.declared.Machine.{Machine}
 use Rattle.settling.specs.View.{view, chainOf, Valid}
 use Rattle.sm.specs.declared.Made.{Made}
@@ -22,8 +25,16 @@ use Rattle.sm.specs.Calls.{Expected, startOf}
 abbrev pub noChain : Chain
 noChain = record { list = noEntries; positions = replicate 256 0; parents = replicate 255 0 }
 
+-- No component was touched, and no effect given.
+abbrev pub untouched : State → Work
+untouched s = record { state = s; rot = newRot; sink = emptySink }
+
+-- Nothing waits, is queued or has failed.
+abbrev pub idle : Dispatch
+idle = record { next = 0; waiting = Nothing; pending = noEvents; failed = false }
+
 unfoldable pub blank : Machine
-blank = record { chain = noChain; «max_retry» = 0; state = Locked; rot = newRot; batch = emptySink; next = 0; waiting = Nothing; pending = noEvents; failed = false }
+blank = record { chain = noChain; «max_retry» = 0; work = untouched Locked; dispatch = idle }
 
 -- The machine of an accepted list and a max_retry, at power-on. What its arrays hold past their lengths is left open.
 pub record Fresh (l : ComponentList) (max : ℕ) (m : Machine) : Type 0 where
@@ -40,7 +51,7 @@ pub record NewGives (l : ComponentList) (max : ℕ) (r : Made) : Type 0 where
 
 -- What a call reports of the machine that it gives back.
 abbrev pub reported : Machine → ℕ → Called
-reported m n = record { machine = m; number = n; effect = m .waiting }
+reported m n = record { machine = m; number = n; effect = m .dispatch .waiting }
 
 -- A step call on the machine m, for which document 01 gives x: the machine as it is read, the number and the effect; the
 -- chain and max_retry stay. A refused call gives back m itself. No call settles over 8 events before the next effect or the

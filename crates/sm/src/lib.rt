@@ -10,15 +10,17 @@ ghost use Rattle.machine.specs.Status.{statusAt, iso};
 ghost use Rattle.settling.specs.View.{view, chainOf, Valid};
 ghost use Rattle.sm.specs.Calls.{doneBy, beginOf, replyOf};
 ghost use Rattle.sm.specs.Isolation.{isolation};
-ghost use Rattle.sm.specs.Gives.{blank, Fresh, NewGives, CallGives, reported};
+ghost use Rattle.sm.specs.Gives.{untouched, idle, blank, Fresh, NewGives, CallGives, reported};
 use chain::Chain;
 use components::Answer;
 use components::ComponentList;
 use machine::ComponentStatus;
 use machine::Rot;
+use machine::Work;
 use model::Event;
 use model::State;
 use pending::Pending;
+use settling::Dispatch;
 use settling::Machine;
 use settling::Reply;
 use settling::Waiting;
@@ -37,6 +39,29 @@ pub struct Called {
     pub effect: Waiting,
 }
 
+// No component was touched, and no effect given, in this state.
+fn at_work(state: State) -> Work
+    ensures { λ r. ⌜ r ≡ untouched state ⌝ }
+{
+    Work {
+        state: state,
+        rot: Rot::new(),
+        sink: Sink::new(),
+    }
+}
+
+// Nothing waits, is queued or has failed.
+fn idle() -> Dispatch
+    ensures { λ r. ⌜ r ≡ idle ⌝ }
+{
+    Dispatch {
+        next: 0,
+        waiting: Waiting::Nothing,
+        pending: Pending::new(),
+        failed: false,
+    }
+}
+
 // The machine of a refusal: it has no component, and is locked.
 fn blank() -> Machine
     ensures { λ r. ⌜ r ≡ blank ⌝ }
@@ -51,13 +76,8 @@ fn blank() -> Machine
     Machine {
         chain: chain,
         max_retry: 0,
-        state: State::Locked,
-        rot: Rot::new(),
-        batch: Sink::new(),
-        next: 0,
-        waiting: Waiting::Nothing,
-        pending: Pending::new(),
-        failed: false,
+        work: at_work(State::Locked),
+        dispatch: idle(),
     }
 }
 
@@ -69,13 +89,8 @@ fn started(list: ComponentList, max_retry: u8) -> Machine
     Machine {
         chain: Chain::of(list),
         max_retry: max_retry,
-        state: State::PowerOnReset,
-        rot: Rot::new(),
-        batch: Sink::new(),
-        next: 0,
-        waiting: Waiting::Nothing,
-        pending: Pending::new(),
-        failed: false,
+        work: at_work(State::PowerOnReset),
+        dispatch: idle(),
     }
 }
 
@@ -101,11 +116,12 @@ pub fn new(list: ComponentList, max_retry: u8) -> Made
 fn is_done(m: Machine) -> bool
     ensures { λ r. ⌜ r ≡ doneBy (view m .waiting) (view m .queue) ⌝ }
 {
-    let waiting = m.waiting;
+    let d = m.dispatch;
+    let waiting = d.waiting;
     match waiting {
         Waiting::Handed(_) => false,
         Waiting::Nothing => {
-            let pending = m.pending;
+            let pending = d.pending;
             pending.count() == 0
         }
     }
@@ -115,7 +131,8 @@ fn is_done(m: Machine) -> bool
 fn answered(m: Machine) -> Called
     ensures { λ r. ⌜ r ≡ reported m 0 ⌝ }
 {
-    let waiting = m.waiting;
+    let d = m.dispatch;
+    let waiting = d.waiting;
     Called {
         machine: m,
         number: 0,
@@ -127,7 +144,8 @@ fn answered(m: Machine) -> Called
 fn refused(m: Machine, number: u64) -> Called
     ensures { λ r. ⌜ r ≡ reported m number ⌝ }
 {
-    let waiting = m.waiting;
+    let d = m.dispatch;
+    let waiting = d.waiting;
     Called {
         machine: m,
         number: number,
@@ -141,10 +159,10 @@ pub fn begin(machine: Machine, event: Event) -> Called
     ensures { λ r. ⌜ CallGives machine (beginOf (chainOf machine) (machine .«max_retry») (view machine) event) r ⌝ }
 {
     if is_done(machine) {
+        let d = machine.dispatch;
+        let begun = settling::enqueue(d, machine.work.sink.len, event);
         let mut v = machine;
-        let pending = v.pending;
-        let one = pending.push_back(event);
-        v.pending = one;
+        v.dispatch = begun;
         return answered(settling::settle(v));
     }
     refused(machine, 10)
@@ -155,11 +173,14 @@ pub fn reply(machine: Machine, reply: Reply) -> Called
     requires { ⌜ Valid machine ⌝ }
     ensures { λ r. ⌜ CallGives machine (replyOf (chainOf machine) (machine .«max_retry») (view machine) reply) r ⌝ }
 {
-    let waiting = machine.waiting;
+    let d = machine.dispatch;
+    let waiting = d.waiting;
     match waiting {
         Waiting::Nothing => refused(machine, 7),
         Waiting::Handed(_) => {
-            let v = settling::replied(machine, reply);
+            let after = settling::replied(d, machine.work.sink.len, reply);
+            let mut v = machine;
+            v.dispatch = after;
             answered(settling::settle(v))
         }
     }
@@ -170,7 +191,8 @@ pub fn reply(machine: Machine, reply: Reply) -> Called
 pub fn state(m: Machine) -> State
     ensures { λ r. ⌜ r ≡ view m .core .state ⌝ }
 {
-    m.state
+    let work = m.work;
+    work.state
 }
 
 // The number of components.
@@ -186,7 +208,8 @@ pub fn status(m: Machine, p: usize) -> ComponentStatus
     ensures { λ r. ⌜ r ≡ statusAt (view m .core .statuses) p ⌝ }
 {
     let chain = m.chain;
-    let rot = m.rot;
+    let work = m.work;
+    let rot = work.rot;
     let n = chain.count();
     machine::status_at(rot, n, p)
 }
@@ -195,23 +218,25 @@ pub fn status(m: Machine, p: usize) -> ComponentStatus
 pub fn waiting(m: Machine) -> Waiting
     ensures { λ r. ⌜ r ≡ view m .waiting ⌝ }
 {
-    let effect = m.waiting;
-    effect
+    let d = m.dispatch;
+    d.waiting
 }
 
 // The isolated positions: position p is bit p mod 64, lowest first, of word p / 64.
 pub fn isolated_words(m: Machine) -> [u64; 4]
-    ensures { λ r. ⌜ (r ≡ m .rot .isolated .words) × (Valid m → flagsOf 64 r ≡ isolation m) ⌝ }
+    ensures { λ r. ⌜ (r ≡ m .work .rot .isolated .words) × (Valid m → flagsOf 64 r ≡ isolation m) ⌝ }
 {
-    let kept = m.rot;
+    let work = m.work;
+    let kept = work.rot;
     kept.isolated_words()
 }
 
 // How many components are isolated.
 pub fn isolated_count(m: Machine) -> usize
-    ensures { λ r. ⌜ (r ≡ trues (flags (m .rot .isolated))) × (Valid m → r ≡ trues (map iso (view m .core .statuses))) ⌝ }
+    ensures { λ r. ⌜ (r ≡ trues (flags (m .work .rot .isolated))) × (Valid m → r ≡ trues (map iso (view m .core .statuses))) ⌝ }
 {
-    let rot = m.rot;
+    let work = m.work;
+    let rot = work.rot;
     let isolated = rot.isolated;
     isolated.count()
 }

@@ -32,7 +32,7 @@ returns-2 c = never
 
 returns-3 : tie.Need-returns-3
 returns-3 c =
-    let s = c .before .before in
+    let s = c .before .before .before in
     let m = s .args .m in
     λ h. turn-by (chainOf m) (m .«max_retry») (view m) (Handed (c .enum-told .given .0 .0)) (view m .left) (view m .queue) (view-waiting m ∙ c .enum-told .given .1) refl refl
 
@@ -40,9 +40,9 @@ returns-4 : tie.Need-returns-4
 returns-4 c =
     let s = c .before .before .before .before .before .before .before .before .before .before in
     let m = s .args .m in
-    let none : length (events (m .pending)) ≤ 0 = omega (arith, c .before .before .count .ensures .0, c .before .if2 .left) in
-    λ h. turn-by (chainOf m) (m .«max_retry») (view m) Nothing [] [] (view-waiting m ∙ c .before .before .before .before .before .before .before .before .enum-told2 .given .1) (left-none m (s .pre) (c .before .before .before .before .if1 .left)) (view-queue m ∙ no-length (events (m .pending)) none)
-    ∙ ap (λ (b : Bool). failedIs b (view m)) (sym (view-failed m ∙ not-true (m .failed) h))
+    let none : length (events (m .dispatch .pending)) ≤ 0 = omega (arith, c .before .before .count .ensures .0, c .before .if2 .left) in
+    λ h. turn-by (chainOf m) (m .«max_retry») (view m) Nothing [] [] (view-waiting m ∙ c .before .before .before .before .before .before .before .enum-told2 .given .1) (left-none m (s .pre) (c .before .before .before .before .if1 .left)) (view-queue m ∙ no-length (events (m .dispatch .pending)) none)
+    ∙ ap (λ (b : Bool). failedIs b (view m)) (sym (view-failed m ∙ not-true (m .dispatch .failed) h))
 
 pub at-rest-spec : {M : Type 1} → statement M
 at-rest-spec =

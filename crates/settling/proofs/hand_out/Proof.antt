@@ -4,9 +4,6 @@ use borrow.Author.Needs.{needs}
 use Rattle.settling.proofs.hand_out.Statement.{statement}
 use Rattle.settling.proofs.hand_out.Tie as tie
 
-get-requires : tie.Need-get-requires
-get-requires c κs = search needs
-
 add-v : tie.Need-add-v
 add-v c = search needs
 
@@ -27,23 +24,20 @@ enqueue-requires c κs = search needs
 
 returns : tie.Need-returns
 returns c =
-    let s = c .before .before .before .before .before .before in
+    let s = c .before .before .before .before in
     let o = c .before .before .before .emitted-event in
-    let x = c .before .before .before .before .get in
-    handed (s .args .m) (s .pre .0) (x .result) (x .ensures) (o .result) (o .ensures) (c .before .enum-told .given .1) (c .with-waiting .result) (c .with-waiting .ensures)
+    handed (s .args .d) (s .args .effect) (o .result) (o .ensures) (s .pre .0) (c .before .enum-told .given .1) (c .with-waiting .result) (c .with-waiting .ensures)
 
 returns-2 : tie.Need-returns-2
 returns-2 c =
-    let s = c .before .before .before .before .before .before .before in
+    let s = c .before .before .before .before .before in
     let o = c .before .before .before .before .emitted-event in
-    let x = c .before .before .before .before .before .get in
-    queued (s .args .m) (s .pre .0) (x .result) (x .ensures) (o .result) (o .ensures) _ (c .before .before .emitted .given .1) (c .enqueue .result) (c .enqueue .ensures)
+    queued (s .args .d) (s .args .effect) (o .result) (o .ensures) _ (c .before .before .emitted .given .1) (c .enqueue .result) (c .enqueue .ensures)
 
 pub hand-out-spec : {M : Type 1} → statement M
 hand-out-spec =
     tie.close
     (tie.spec
-    get-requires
     add-v
     emitted-event-requires
     enum-told

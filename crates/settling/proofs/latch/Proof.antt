@@ -1,11 +1,12 @@
 -- `latch` meets its contract: the batch has ended, and then the queue changes.
-use mathlib.Core.Path.{sym, ap, _∙_}
+use native.Mathlib.Omega.{arith}
 use mathlib.Core.Bool.{true}
-use Rattle.pending.specs.Queue.{latched}
+use mathlib.Core.List.{List}
+use lib.ListN.{length-take}
+use Rattle.model.specs.declared.Effect.{Effect}
+use Rattle.pending.specs.Queue.{events, latched}
 use Rattle.settling.specs.Settle.{Model, failedIs, queueIs}
-use Rattle.settling.specs.View.{view}
-use Rattle.settling.proofs.Ends.{latch-few}
-use Rattle.settling.proofs.Views.{becomes-then, pends-becomes, view-queue}
+use Rattle.settling.proofs.Views.{moves-then, pends-moves}
 use borrow.Author.Needs.{needs}
 use Rattle.settling.proofs.latch.Statement.{statement}
 use Rattle.settling.proofs.latch.Tie as tie
@@ -18,10 +19,9 @@ latch-requires c κs = search needs
 
 returns : tie.Need-returns
 returns c =
-    let s = c .before .before .before in
     let b = c .before .before .end-batch in
-    becomes-then (λ (x : Model). failedIs true (queueIs (latched (x .queue)) x)) (b .ensures)
-    (pends-becomes (b .result) (b .ensures .whole) (c .latch .result) true (latched (view (b .result) .queue)) (c .latch .ensures ∙ ap latched (sym (view-queue (b .result)))) (latch-few (view (b .result))))
+    moves-then (λ (es : List Effect) (x : Model). failedIs true (queueIs (latched (x .queue)) x)) (b .ensures)
+    (pends-moves (b .result) (c .latch .result) true latched (c .latch .ensures) (omega (arith, length-take 7 (events (b .result .pending)))))
 
 pub latch-spec : {M : Type 1} → statement M
 latch-spec = tie.close (tie.spec end-batch-requires latch-requires returns)

@@ -7,13 +7,12 @@ use Rattle.model.proofs.Arrays.{unmap}
 use Rattle.pending.specs.Queue.{events}
 use Rattle.settling.specs.declared.Waiting.the-variants.{Nothing, Handed}
 use Rattle.settling.specs.View.{view}
-use Rattle.settling.specs.Parts.{nextEffect, after}
-use Rattle.settling.proofs.Views.{view-waiting, view-queue, taken-front, left-some, left-none, taken-by}
+use Rattle.settling.proofs.Views.{nextEffect, after, view-waiting, view-queue, taken-front, left-some, left-none, taken-by}
 use borrow.Author.Needs.{needs}
 use Rattle.settling.proofs.next_event.Statement.{statement}
 use Rattle.settling.proofs.next_event.Tie as tie
 
-slots : (s : tie.Start) → length (s .args .m .batch .effects) ≡ 512
+slots : (s : tie.Start) → length (s .args .m .work .sink .effects) ≡ 512
 slots s = search (needs, unmap)
 
 enum-told : tie.Need-enum-told
@@ -26,14 +25,14 @@ returns : tie.Need-returns
 returns c =
     let s = c .before .before .before .before .before .before in
     let m = s .args .m in
-    sym (taken-by (view m) Nothing (nextEffect m ∷ after m) (view m .queue) (view-waiting m ∙ c .before .before .before .before .enum-told2 .given .1) (left-some m (s .pre) (slots s) (c .if1 .taken)) refl)
+    sym (taken-by (view m) Nothing (nextEffect m ∷ after m) (view m .queue) (view-waiting m ∙ c .before .before .before .enum-told2 .given .1) (left-some m (s .pre) (slots s) (c .if1 .taken)) refl)
 
 front-requires : tie.Need-front-requires
 front-requires c κs = search needs
 
 returns-2 : tie.Need-returns-2
 returns-2 c =
-    let s = c .before .before in
+    let s = c .before .before .before in
     let m = s .args .m in
     sym (taken-by (view m) (Handed (c .enum-told .given .0 .0)) (view m .left) (view m .queue) (view-waiting m ∙ c .enum-told .given .1) refl refl)
 
@@ -41,8 +40,8 @@ returns-3 : tie.Need-returns-3
 returns-3 c =
     let s = c .before .before .before .before .before .before .before .before in
     let m = s .args .m in
-    c .front .ensures ∙ taken-front (events (m .pending))
-    ∙ sym (taken-by (view m) Nothing [] (events (m .pending)) (view-waiting m ∙ c .before .before .before .before .before .before .enum-told2 .given .1) (left-none m (s .pre) (c .before .before .if1 .left)) (view-queue m))
+    c .front .ensures ∙ taken-front (events (m .dispatch .pending))
+    ∙ sym (taken-by (view m) Nothing [] (events (m .dispatch .pending)) (view-waiting m ∙ c .before .before .before .before .before .enum-told2 .given .1) (left-none m (s .pre) (c .before .before .if1 .left)) (view-queue m))
 
 pub next-event-spec : {M : Type 1} → statement M
 next-event-spec =

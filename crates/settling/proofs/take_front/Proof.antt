@@ -7,13 +7,14 @@ use Rattle.settling.proofs.take_front.Tie as tie
 step-requires : tie.Need-step-requires
 step-requires c κs = search needs
 
-pop-front-requires : tie.Need-pop-front-requires
-pop-front-requires c κs = search needs
+taken-requires : tie.Need-taken-requires
+taken-requires c κs = search needs
 
 returns : tie.Need-returns
 returns c =
-    let s = c .before .before .before .before .before .before .before in
-    stepped-becomes (s .args .m) (s .pre) (s .args .event) (c .before .before .before .step .result) (c .pop-front .result) (c .before .before .before .step .ensures) (c .pop-front .ensures)
+    let s = c .before .before .before .before .before .before in
+    let step = c .before .before .step in
+    stepped-becomes (s .args .m) (s .pre) (s .args .event) (step .result) (c .taken .result) (step .ensures) (c .taken .ensures)
 
 pub take-front-spec : {M : Type 1} → statement M
-take-front-spec = tie.close (tie.spec step-requires pop-front-requires returns)
+take-front-spec = tie.close (tie.spec step-requires taken-requires returns)
