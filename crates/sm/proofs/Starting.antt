@@ -18,11 +18,11 @@ use Rattle.chain.specs.declared.Chain.{Chain}
 use Rattle.chain.specs.Tables.{entries, size}
 use Rattle.chain.specs.Filled.{ChartOf}
 use Rattle.chain.proofs.Room.{all-kept}
-use Rattle.store.specs.Sink.{emptySink, held}
-use Rattle.pending.specs.Queue.{events, noEvents}
+use Rattle.store.specs.Sink.{held}
+use Rattle.pending.specs.Queue.{events}
 use Rattle.machine.specs.declared.ComponentStatus.{ComponentStatus}
 use Rattle.machine.specs.Status.{fresh}
-use Rattle.machine.specs.View.{newRot, Fit}
+use Rattle.machine.specs.View.{Fit}
 use Rattle.machine.proofs.New.{new-fits, new-statuses}
 use Rattle.settling.specs.declared.Machine.{Machine}
 use Rattle.settling.specs.declared.Waiting.the-variants.{Nothing}
@@ -30,7 +30,7 @@ use Rattle.settling.specs.View.{view, Valid}
 use Rattle.settling.proofs.Views.{never}
 use Rattle.sm.specs.Calls.{startOf}
 use Rattle.sm.specs.declared.Made.{Made}
-use Rattle.sm.specs.Gives.{blank, Fresh, NewGives}
+use Rattle.sm.specs.Gives.{untouched, idle, blank, Fresh, NewGives}
 
 -- A list that is not refused is accepted.
 pub not-refused : (v : Verdict) → refuses v ≡ false → v ≡ Accepted
@@ -59,7 +59,7 @@ unfolding blank
 blank-invalid v = omega (arith, v .whole .sane .sound .some)
 
 abbrev pub start : Chain → ℕ → Machine
-start c max = record { chain = c; «max_retry» = max; state = PowerOnReset; rot = newRot; batch = emptySink; next = 0; waiting = Nothing; pending = noEvents; failed = false }
+start c max = record { chain = c; «max_retry» = max; work = untouched PowerOnReset; dispatch = idle }
 
 pub start-fresh : (l : ComponentList) (max : ℕ) (c : Chain) → length (l .entries) ≡ 255 → verdictOf (l .len) (entriesOf l) ≡ Accepted → ChartOf l c → Fresh l max (start c max)
 unfolding view startOf held events

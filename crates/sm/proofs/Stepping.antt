@@ -3,7 +3,7 @@ use Prim.Native.Nat.{ℕ, _≤_}
 use native.Mathlib.Omega.{arith}
 use mathlib.Core.Path.{_≡_, refl, sym, ap, _∙_, subst}
 use mathlib.Core.Bool.{Bool, true, false}
-use mathlib.Core.List.{List, [], _∷_}
+use mathlib.Core.List.{List, [], _∷_, _++_}
 use lib.Dec.{eqb}
 use lib.ListN.{length}
 use borrow.Author.Tests.{ne-eqb}
@@ -12,17 +12,18 @@ use Rattle.model.specs.declared.Event.{Event}
 use Rattle.model.specs.declared.Effect.{Effect}
 use Rattle.model.proofs.Pick.{pickP}
 use Rattle.chain.specs.Tables.{entries}
-use Rattle.pending.specs.declared.Pending.{Pending}
-use Rattle.pending.specs.Queue.{hasRoom, events, atBack}
+use Rattle.pending.specs.Queue.{hasRoom}
+use Rattle.settling.specs.declared.Dispatch.{Dispatch}
 use Rattle.settling.specs.declared.Machine.{Machine}
 use Rattle.settling.specs.declared.Reply.{Reply}
 use Rattle.settling.specs.declared.Reply.the-variants.{Done, Then, Failed}
 use Rattle.settling.specs.declared.Waiting.{Waiting}
 use Rattle.settling.specs.declared.Waiting.the-variants.{Nothing, Handed}
-use Rattle.settling.specs.Settle.{Model, Run, waitingIs, queueIs, failedIs, replied, settle}
-use Rattle.settling.specs.View.{view, chainOf, Whole, Becomes, Rests, Valid}
+use Rattle.settling.specs.Settle.{Model, Run, waitingIs, queueIs, enqueue, replied, settle}
+use Rattle.settling.specs.View.{view, chainOf, Becomes, Rests, Valid}
+use Rattle.settling.specs.Parts.{Moves}
 use Rattle.settling.proofs.Ends.{Few, fail-few, enqueue-few, settle-ends}
-use Rattle.settling.proofs.Views.{becomes-as, pends, pends-becomes, view-waiting, view-queue, view-failed, view-few, never}
+use Rattle.settling.proofs.Views.{puts, becomes-as, moves-becomes, enqueue-room, view-waiting, never}
 use Rattle.sm.specs.declared.Called.{Called}
 use Rattle.sm.specs.Calls.{Expected, answered, refused, doneBy, beginOf, replyBy, replyOf}
 use Rattle.sm.specs.Gives.{reported, CallGives}
@@ -86,14 +87,15 @@ module _ (m : Machine) (w : Valid m) (e : Event) where
   begin-refused h = ap (λ (b : Bool). pick b (answered (settle (chainOf m) (m .«max_retry») (queueIs (e ∷ []) (view m)))) (refused 10 (view m))) h
 
   -- The event stands alone in the queue.
-  pub begun : done ≡ true → (p : Pending) → events p ≡ atBack e (events (m .pending)) → Becomes m (queueIs (e ∷ []) (view m)) (pends p (m .failed) m)
-  begun h p q =
-      let none : events (m .pending) ≡ [] = sym (view-queue m) ∙ done-both (view m .waiting) (view m .queue) h .1 in
-      becomes-as (pends-becomes m (w .whole) p (m .failed) (e ∷ []) (q ∙ ap (atBack e) none) (omega arith)) (ap (λ (b : Bool). failedIs b (queueIs (e ∷ []) (view m))) (sym (view-failed m)))
+  pub begun : done ≡ true → (d : Dispatch) → Moves (m .work .sink .len) (λ es. enqueue e) (m .dispatch) d → Becomes m (queueIs (e ∷ []) (view m)) (puts d m)
+  begun h d b =
+      let none : view m .queue ≡ [] = done-both (view m .waiting) (view m .queue) h .1 in
+      becomes-as (moves-becomes m (w .whole) (λ (es : List Effect). enqueue e) d b)
+      (enqueue-room e (view m) (omega (arith, ap (λ (q : List Event). length q) none)) ∙ ap (λ (q : List Event). queueIs (q ++ (e ∷ [])) (view m)) none)
 
-  pub begun-idle : done ≡ true → m .waiting ≡ Nothing
+  pub begun-idle : done ≡ true → m .dispatch .waiting ≡ Nothing
   begun-idle h = sym (view-waiting m) ∙ done-both (view m .waiting) (view m .queue) h .0
 
-pub reply-waiting : (m : Machine) (a : Reply) (u : Waiting) → m .waiting ≡ u → replyOf (chainOf m) (m .«max_retry») (view m) a ≡ replyBy (chainOf m) (m .«max_retry») (view m) a u
+pub reply-waiting : (m : Machine) (a : Reply) (u : Waiting) → m .dispatch .waiting ≡ u → replyOf (chainOf m) (m .«max_retry») (view m) a ≡ replyBy (chainOf m) (m .«max_retry») (view m) a u
 unfolding replyOf
 reply-waiting m a u h = ap (replyBy (chainOf m) (m .«max_retry») (view m) a) (view-waiting m ∙ h)

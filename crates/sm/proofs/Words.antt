@@ -29,16 +29,16 @@ trues-none [] (suc n) = trues-none [] n
 trues-none (true ∷ bs) n = ap suc (trues-none bs n)
 trues-none (false ∷ bs) n = trues-none bs n
 
-module _ (m : Machine) (full : length (m .rot .statuses) ≡ 255) (v : Valid m) where
+module _ (m : Machine) (full : length (m .work .rot .statuses) ≡ 255) (v : Valid m) where
   few : size (m .chain) ≤ 255
   few = omega (arith, length-take (m .chain .list .len) (m .chain .list .entries), v .whole .sane .sound .few)
 
-  flagged : map iso (view m .core .statuses) ≡ take (size (m .chain)) (flags (m .rot .isolated))
+  flagged : map iso (view m .core .statuses) ≡ take (size (m .chain)) (flags (m .work .rot .isolated))
   unfolding view statusesOf
-  flagged = iso-joined (take (size (m .chain)) (flags (m .rot .isolated))) (take (size (m .chain)) (m .rot .statuses)) (omega (arith, few, length-take (size (m .chain)) (flags (m .rot .isolated)), length-take (size (m .chain)) (m .rot .statuses)))
+  flagged = iso-joined (take (size (m .chain)) (flags (m .work .rot .isolated))) (take (size (m .chain)) (m .work .rot .statuses)) (omega (arith, few, length-take (size (m .chain)) (flags (m .work .rot .isolated)), length-take (size (m .chain)) (m .work .rot .statuses)))
 
-  pub words-say : flags (m .rot .isolated) ≡ isolation m
-  words-say = sym (take-append-drop (size (m .chain)) (flags (m .rot .isolated))) ∙ (λ j. sym flagged j ++ v .whole .sane .fit .clean j)
+  pub words-say : flags (m .work .rot .isolated) ≡ isolation m
+  words-say = sym (take-append-drop (size (m .chain)) (flags (m .work .rot .isolated))) ∙ (λ j. sym flagged j ++ v .whole .sane .fit .clean j)
 
-  pub count-says : trues (flags (m .rot .isolated)) ≡ trues (map iso (view m .core .statuses))
+  pub count-says : trues (flags (m .work .rot .isolated)) ≡ trues (map iso (view m .core .statuses))
   count-says = ap trues words-say ∙ trues-none (map iso (view m .core .statuses)) (256 - size (m .chain))

@@ -4,7 +4,7 @@ use mathlib.Core.Path.{sym, _∙_, subst}
 use mathlib.Core.List.{[], _∷_}
 use Rattle.settling.specs.Settle.{queueIs}
 use Rattle.settling.specs.View.{view}
-use Rattle.settling.proofs.Views.{pends, view-waiting}
+use Rattle.settling.proofs.Views.{puts, view-waiting}
 use Rattle.sm.specs.Calls.{Expected}
 use Rattle.sm.specs.Gives.{CallGives}
 use Rattle.sm.proofs.Stepping.{begun, begun-idle, begin-done, begin-refused, settles, refuses}
@@ -15,15 +15,15 @@ use Rattle.sm.proofs.begin.Tie as tie
 is-done-requires : tie.Need-is-done-requires
 is-done-requires c κs = search needs
 
-push-back-requires : tie.Need-push-back-requires
-push-back-requires c κs = search needs
+enqueue-requires : tie.Need-enqueue-requires
+enqueue-requires c κs = c .before .before .before .pre .whole .few
 
 settle-requires : tie.Need-settle-requires
 settle-requires c κs =
     let s = c .before .before .before .before in
     let m = s .args .machine in
     let d = sym (c .before .before .before .is-done .ensures) ∙ c .before .before .if1 .taken in
-    begun m (s .pre) (s .args .event) d (c .push-back .result) (c .push-back .ensures) .whole
+    begun m (s .pre) (s .args .event) d (c .enqueue .result) (c .enqueue .ensures) .whole
 
 answered-requires : tie.Need-answered-requires
 answered-requires c κs = search needs
@@ -34,9 +34,9 @@ returns c =
     let m = s .args .machine in
     let e = s .args .event in
     let d = sym (c .before .before .before .before .before .is-done .ensures) ∙ c .before .before .before .before .if1 .taken in
-    let p = c .before .before .push-back in
+    let q = c .before .before .enqueue in
     subst (λ (x : Expected). CallGives m x (c .answered .result)) (sym (begin-done m (s .pre) e d))
-    (settles m (pends (p .result) (m .failed) m) (c .before .settle .result) (queueIs (e ∷ []) (view m)) (c .answered .result) (begun m (s .pre) e d (p .result) (p .ensures)) (view-waiting m ∙ begun-idle m (s .pre) e d) (omega arith) (c .before .settle .ensures) (c .answered .ensures))
+    (settles m (puts (q .result) m) (c .before .settle .result) (queueIs (e ∷ []) (view m)) (c .answered .result) (begun m (s .pre) e d (q .result) (q .ensures)) (view-waiting m ∙ begun-idle m (s .pre) e d) (omega arith) (c .before .settle .ensures) (c .answered .ensures))
 
 refused-requires : tie.Need-refused-requires
 refused-requires c κs = search needs
@@ -53,7 +53,7 @@ begin-spec =
     tie.close
     (tie.spec
     is-done-requires
-    push-back-requires
+    enqueue-requires
     settle-requires
     answered-requires
     returns

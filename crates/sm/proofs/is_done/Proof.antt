@@ -23,13 +23,13 @@ count-requires c κs = search needs
 
 returns : tie.Need-returns
 returns c =
-    let m = c .before .before .args .m in
+    let m = c .before .before .before .args .m in
     sym (ap (λ (w : Waiting). doneBy w (view m .queue)) (view-waiting m ∙ c .enum-told .given .1))
 
 returns-2 : tie.Need-returns-2
 returns-2 c =
-    let m = c .before .before .before .before .args .m in
-    ap (λ (n : ℕ). eqb n 0) (c .count .ensures .0) ∙ done-count (events (m .pending)) ∙ sym (λ j. doneBy ((view-waiting m ∙ c .before .before .enum-told2 .given .1) j) (view-queue m j))
+    let m = c .before .before .before .before .before .args .m in
+    ap (λ (n : ℕ). eqb n 0) (c .count .ensures .0) ∙ done-count (events (m .dispatch .pending)) ∙ sym (λ j. doneBy ((view-waiting m ∙ c .before .before .enum-told2 .given .1) j) (view-queue m j))
 
 pub is-done-spec : {M : Type 1} → statement M
 is-done-spec = tie.close (tie.spec enum-told enum-told-2 count-requires returns returns-2)

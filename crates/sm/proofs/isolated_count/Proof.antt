@@ -10,12 +10,12 @@ use Rattle.sm.proofs.isolated_count.Tie as tie
 count-requires : tie.Need-count-requires
 count-requires c κs = search needs
 
-full : (s : tie.Start) → length (s .args .m .rot .statuses) ≡ 255
+full : (s : tie.Start) → length (s .args .m .work .rot .statuses) ≡ 255
 full s = search (needs, unmap)
 
 returns : tie.Need-returns
 returns c =
-    let s = c .before .before .before in
+    let s = c .before .before .before .before in
     let e = c .count .ensures .0 in
     (e, λ v. e ∙ count-says (s .args .m) (full s) v)
 

@@ -10,12 +10,12 @@ use Rattle.sm.proofs.isolated_words.Tie as tie
 isolated-words-requires : tie.Need-isolated-words-requires
 isolated-words-requires c κs = search needs
 
-full : (s : tie.Start) → length (s .args .m .rot .statuses) ≡ 255
+full : (s : tie.Start) → length (s .args .m .work .rot .statuses) ≡ 255
 full s = search (needs, unmap)
 
 returns : tie.Need-returns
 returns c =
-    let s = c .before .before in
+    let s = c .before .before .before in
     let e = c .isolated-words .ensures in
     (e .0, λ v. e .1 ∙ words-say (s .args .m) (full s) v)
 

@@ -17,8 +17,8 @@ status-at-requires c κs = search needs
 returns : tie.Need-returns
 unfolding view
 returns c =
-    let s = c .before .before .before .before in
-    c .status-at .ensures ∙ ap (λ (n : ℕ). statusAt (statusesOf n (s .args .m .rot)) (s .args .p)) (c .before .count .ensures .0)
+    let s = c .before .before .before .before .before in
+    c .status-at .ensures ∙ ap (λ (n : ℕ). statusAt (statusesOf n (s .args .m .work .rot)) (s .args .p)) (c .before .count .ensures .0)
 
 pub status-spec : {M : Type 1} → statement M
 status-spec = tie.close (tie.spec count-requires status-at-requires returns)
