@@ -4,7 +4,7 @@ use mathlib.Core.Bool.{Bool, true, false}
 use mathlib.Core.List.{List, [], _∷_, _++_, append-assoc}
 use Prim.Native.Nat.{ℕ, zero, suc, _+_, _≤_, _<_}
 use native.Mathlib.Omega.{arith}
-use borrow.Author.Tests.{le-leb, lt-leb, ltb-true}
+use borrow.Author.Tests.{le-leb, lt-leb}
 use lib.ListN.{length, take, length-append, length-take, length-drop, length-map}
 use Rattle.model.specs.Vocabulary.{pick}
 use Rattle.model.specs.declared.Component.{Component}
@@ -18,27 +18,21 @@ use Rattle.text.specs.Lines.{textOf, written, roomAfter, over}
 use Rattle.text.proofs.Laws.{unfitted}
 use Rattle.text.proofs.Over.{length-over, written-over, room-at, room-full}
 use Rattle.settling.specs.declared.Machine.{Machine}
-use Rattle.settling.specs.Settle.{Model, queueIs, failedIs}
+use Rattle.settling.specs.Settle.{Model}
 use Rattle.settling.specs.View.{view, chainOf, Whole, Becomes}
 use Rattle.components.specs.Chain.{idAt}
 use Rattle.machine.specs.Status.{statusAt}
 use Rattle.machine.specs.View.{statusesOf}
 use Rattle.printed.specs.Transcript.{statusLine}
-use Rattle.settling.proofs.Views.{never, pends, becomes-as, becomes-then, becomes-same, pends-becomes}
-use Rattle.pending.specs.declared.Pending.{Pending}
-use Rattle.pending.specs.Queue.{events, hasRoom, atBack}
-use Rattle.model.specs.declared.Event.{Event}
-use Rattle.model.proofs.Pick.{pickP}
+use Rattle.settling.proofs.Views.{never}
 use Rattle.driver.specs.declared.Cursor.{Cursor}
 use Rattle.driver.specs.declared.Plan.{Plan}
 use Rattle.driver.specs.declared.Stage.{Stage}
-use Rattle.driver.specs.declared.Act.{Act}
-use Rattle.driver.specs.declared.Act.the-variants.{Stay, Rest, Queue, Give, Turn}
 use Rattle.driver.specs.declared.Say.{Say}
 use Rattle.driver.specs.declared.Say.the-variants.{Silence, EffectLine, StateLine, StatusLine}
 use Rattle.driver.specs.Run.{Entry, Told, entryLine, transcript, Setting, Point, Step, Progress, stopped, stageOf, stepBy, stepFrom, recorded, steps, toDo, runFrom}
 use Rattle.driver.specs.Seen.{seen, settingOf, Ran}
-use Rattle.driver.specs.Plans.{atStart, touching, actedBy, queuedBy, failedBy, marked, acts, tellingNow, spoken, says, Tells, wrote, Stands, planned, Planned}
+use Rattle.driver.specs.Plans.{atStart, acts, tellingNow, spoken, says, Tells, wrote, Stands, planned, Planned}
 use Rattle.driver.proofs.Moves.{transcript-one, step-by}
 use Rattle.driver.proofs.Less.{step-less}
 
@@ -82,8 +76,9 @@ module _ (room : ℕ) (es : List Entry) (t : Step) where
 left-few : (m : Machine) → Whole m → length (view m .left) ≤ 512
 unfolding view held
 left-few m w =
-    let l = take (m .batch .len) (m .batch .effects) in
-    omega (arith, length-drop (m .next) (held (m .batch)), length-map l effectOf, length-take (m .batch .len) (m .batch .effects), w .room)
+    let b = m .work .sink in
+    let l = take (b .len) (b .effects) in
+    omega (arith, length-drop (m .dispatch .next) (held b), length-map l effectOf, length-take (b .len) (b .effects), w .room)
 
 -- ---- Under way
 
@@ -99,33 +94,6 @@ measure-by false b k l e h = never e
 pub becomes-is : {m v r : Machine} {x : Model} → Becomes m x r → v ≡ r → Becomes m x v
 becomes-is {m} {v} {r} {x} b e = subst (Becomes m x) (sym e) b
 
--- A machine that is not touched.
-pub kept : (m : Machine) (act : Act) → touching act ≡ false → Whole m → Becomes m (actedBy (chainOf m) (m .«max_retry») act (view m)) m
-kept m Stay e w = becomes-same m w
-kept m Rest e w = becomes-same m w
-kept m (Queue x) e w = becomes-same m w
-kept m (Give a) e w = never (sym e)
-kept m Turn e w = never (sym e)
-
-back-few : (e : Event) (q : List Event) → length q ≤ 8 → length (atBack e q) ≤ 8
-back-few e q h = pickP (λ (l : List Event). length l ≤ 8) (hasRoom q) (λ t. omega (arith, length-append q (e ∷ []), ltb-true (length q) 8 t)) (λ t. h)
-
-queued-few : (act : Act) (q : List Event) → length q ≤ 8 → length (queuedBy act q) ≤ 8
-queued-few Stay q h = h
-queued-few Rest q h = h
-queued-few (Queue e) q h = back-few e q h
-queued-few (Give a) q h = h
-queued-few Turn q h = h
-
--- And then its queue and its mark of failure.
-pub marks : {m u : Machine} (act : Act) → Becomes m (actedBy (chainOf m) (m .«max_retry») act (view m)) u → (p : Pending) → events p ≡ queuedBy act (events (u .pending)) → (b : Bool) → b ≡ failedBy act (u .failed)
-    → Becomes m (acts (chainOf m) (m .«max_retry») act (view m)) (pends p b u)
-unfolding view
-marks {m} {u} act h p e b f =
-    becomes-then (marked act) h
-    (becomes-as (pends-becomes u (h .whole) p b (queuedBy act (events (u .pending))) e (queued-few act (events (u .pending)) (h .whole .few)))
-    (ap (λ (k : Bool). failedIs k (queueIs (queuedBy act (events (u .pending))) (view u))) f))
-
 -- There is a component for a T line.
 pub tells-one : (say : Say) (p n : ℕ) → tellingNow say ≡ true → Tells say p n → p < n
 tells-one Silence p n e h = never e
@@ -135,7 +103,7 @@ tells-one StatusLine p n e h = h
 
 -- The line of a plan: m is the machine before, v the one afterwards.
 module _ (ch : List Component) (m v : Machine) (p : ℕ) where
-  pub line-said : (say : Say) → tellingNow say ≡ false → spoken say (m .state) (v .waiting) ≡ says ch say (view m) (view v) p
+  pub line-said : (say : Say) → tellingNow say ≡ false → spoken say (m .work .state) (v .dispatch .waiting) ≡ says ch say (view m) (view v) p
   unfolding view
   line-said Silence e = refl
   line-said EffectLine e = refl
@@ -149,9 +117,9 @@ module _ (ch : List Component) (m v : Machine) (p : ℕ) where
   line-told StatusLine e = sym (transcript-one (Told (idAt ch p) (statusAt (view v .core .statuses) p)))
 
   -- With the count n of the components.
-  pub line-told-of : (n : ℕ) → n ≡ length (chainOf v) → (say : Say) → tellingNow say ≡ true → statusLine (idAt ch p) (statusAt (statusesOf n (v .rot)) p) ≡ transcript (says ch say (view m) (view v) p)
+  pub line-told-of : (n : ℕ) → n ≡ length (chainOf v) → (say : Say) → tellingNow say ≡ true → statusLine (idAt ch p) (statusAt (statusesOf n (v .work .rot)) p) ≡ transcript (says ch say (view m) (view v) p)
   unfolding view
-  line-told-of n e say h = ap (λ (k : ℕ). statusLine (idAt ch p) (statusAt (statusesOf k (v .rot)) p)) e ∙ line-told say h
+  line-told-of n e say h = ap (λ (k : ℕ). statusLine (idAt ch p) (statusAt (statusesOf k (v .work .rot)) p)) e ∙ line-told say h
 
 module _ (s out : List ℕ) (limit : ℕ) (m₀ : Machine) where
   abbrev setting : Setting
@@ -165,6 +133,7 @@ module _ (s out : List ℕ) (limit : ℕ) (m₀ : Machine) where
     pub said : List Entry
     pub left : ℕ
     pub whole : Whole m
+    pub full : length (held (m .work .sink)) ≡ m .work .sink .len
     pub stands : Stands s c
     pub chain : m .chain ≡ m₀ .chain
     pub maxRetry : m .«max_retry» ≡ m₀ .«max_retry»
@@ -174,11 +143,11 @@ module _ (s out : List ℕ) (limit : ℕ) (m₀ : Machine) where
     pub enough : c .going ≡ true → toDo setting (seen s (view m) c) < left
     pub run : whole-run ≡ steps setting (length out) left record { point = seen s (view m) c; said = said }
 
-  pub began : Whole m₀ → (c : Cursor) → c ≡ atStart → Going out m₀ c
+  pub began : Whole m₀ → length (held (m₀ .work .sink)) ≡ m₀ .work .sink .len → (c : Cursor) → c ≡ atStart → Going out m₀ c
   unfolding runFrom transcript over
-  began w c e =
+  began w f c e =
       subst (Going out m₀) (sym e)
-      record { said = []; left = suc (toDo setting (seen s (view m₀) atStart)); whole = w; stands = record { within = omega arith; lines = omega arith }; chain = refl; maxRetry = refl; size = refl; within = omega arith; buffer = refl; enough = λ g. omega arith; run = refl }
+      record { said = []; left = suc (toDo setting (seen s (view m₀) atStart)); whole = w; full = f; stands = record { within = omega arith; lines = omega arith }; chain = refl; maxRetry = refl; size = refl; within = omega arith; buffer = refl; enough = λ g. omega arith; run = refl }
 
   module _ (here : List ℕ) (m : Machine) (c : Cursor) (g : Going here m c) where
     pub long : length here ≡ length out
@@ -201,7 +170,7 @@ module _ (s out : List ℕ) (limit : ℕ) (m₀ : Machine) where
 
     -- One step more: the plan r, the machine v that it gives and the line l that is to be written.
     module _ (on : c .going ≡ true) (k : ℕ) (count : k ≡ length (chainOf m₀)) (stage : Stage) (due : stage ≡ stageOf (view m)) (r : Plan)
-        (plan : Planned s limit k c stage (λ (st : Setting) (p : Point). stepBy st p stage) r) (v : Machine) (became : Becomes m (acts (chainOf m) (m .«max_retry») (r .act) (view m)) v)
+        (plan : Planned s limit k c stage (λ (st : Setting) (p : Point). stepBy st p stage) r) (v : Machine) (became : Becomes m (acts (chainOf m) (m .«max_retry») (r .act) (view m)) v) (filled : length (held (v .work .sink)) ≡ v .work .sink .len)
         (l : Line) (told : textOf l ≡ transcript (says (chainOf m₀) (r .say) (view m) (view v) (c .told))) where
       abbrev step : Step
       step = stepFrom setting (seen s (view m) c)
@@ -268,6 +237,7 @@ module _ (s out : List ℕ) (limit : ℕ) (m₀ : Machine) where
             said = g .said ++ step .said;
             left = n;
             whole = became .whole;
+            full = filled;
             stands = record { within = plan .stands .within; lines = plan .stands .lines };
             chain = became .chain ∙ g .chain;
             maxRetry = became .maxRetry ∙ g .maxRetry;
@@ -288,6 +258,7 @@ module _ (s out : List ℕ) (limit : ℕ) (m₀ : Machine) where
             said = g .said;
             left = n;
             whole = became .whole;
+            full = filled;
             stands = record { within = plan .stands .within; lines = plan .stands .lines };
             chain = became .chain ∙ g .chain;
             maxRetry = became .maxRetry ∙ g .maxRetry;

@@ -7,20 +7,25 @@ use lib.ListN.{length}
 use Rattle.model.specs.declared.Component.{Component}
 use Rattle.model.specs.declared.State.{State}
 use Rattle.model.specs.declared.Event.{Event}
+use Rattle.model.specs.declared.Effect.{Effect}
 use Rattle.components.specs.Chain.{idAt}
 use Rattle.machine.specs.Status.{statusAt}
+use Rattle.machine.specs.View.{Core}
 use Rattle.text.specs.declared.Room.{Room}
 use Rattle.text.specs.declared.Room.the-variants.{At, Full}
-use Rattle.pending.specs.Queue.{atBack}
+use Rattle.pending.specs.Queue.{emits}
 use Rattle.settling.specs.declared.Reply.{Reply}
 use Rattle.settling.specs.declared.Reply.the-variants.{Done}
 use Rattle.settling.specs.declared.Waiting.{Waiting}
 use Rattle.settling.specs.declared.Waiting.the-variants.{Nothing}
-use Rattle.settling.specs.Settle.{Model, waitingIs, queueIs, failedIs, replied, turnOf}
+use Rattle.settling.specs.declared.Dispatch.{Dispatch}
+use Rattle.settling.specs.Settle.{Model, waitingIs, failedIs, enqueue, replied, handOut, turnOf}
+use Rattle.settling.specs.View.{within}
 use Rattle.lines.specs.declared.Row.{Row}
 use Rattle.lines.specs.declared.Row.the-variants.{Retry, Card, Begin, Answer, Bad}
 use Rattle.driver.specs.declared.Cursor.{Cursor}
 use Rattle.driver.specs.declared.Stage.{Stage}
+use Rattle.driver.specs.declared.Stage.the-variants.{Waits, HandsOut, Takes, Rests}
 use Rattle.driver.specs.declared.Act.{Act}
 use Rattle.driver.specs.declared.Act.the-variants.{Stay, Rest, Queue, Give, Turn}
 use Rattle.driver.specs.declared.Say.{Say}
@@ -84,40 +89,47 @@ readsBy c after Bad = stays (passes after c)
 
 -- ---- What a plan does to the machine and writes
 
--- More changes than the queue and the mark of failure.
-abbrev pub touching : Act → Bool
-touching Stay = false
-touching Rest = false
-touching (Queue e) = false
-touching (Give a) = true
-touching Turn = true
-
-abbrev pub actedBy : List Component → ℕ → Act → Model → Model
-actedBy ch max Stay x = x
-actedBy ch max Rest x = x
-actedBy ch max (Queue e) x = x
-actedBy ch max (Give a) x = replied a (waitingIs Nothing x)
-actedBy ch max Turn x = turnOf ch max x
-
-abbrev pub queuedBy : Act → List Event → List Event
-queuedBy Stay q = q
-queuedBy Rest q = q
-queuedBy (Queue e) q = atBack e q
-queuedBy (Give a) q = q
-queuedBy Turn q = q
-
-abbrev pub failedBy : Act → Bool → Bool
-failedBy Stay b = b
-failedBy Rest b = false
-failedBy (Queue e) b = b
-failedBy (Give a) b = b
-failedBy Turn b = b
-
-abbrev pub marked : Act → Model → Model
-marked a x = failedIs (failedBy a (x .failed)) (queueIs (queuedBy a (x .queue)) x)
-
 abbrev pub acts : List Component → ℕ → Act → Model → Model
-acts ch max a x = marked a (actedBy ch max a x)
+acts ch max Stay x = x
+acts ch max Rest x = failedIs false x
+acts ch max (Queue e) x = enqueue e x
+acts ch max (Give a) x = replied a (waitingIs Nothing x)
+acts ch max Turn x = turnOf ch max x
+
+-- An effect is handed out.
+abbrev pub handingAt : Stage → Bool
+handingAt Waits = false
+handingAt HandsOut = true
+handingAt Takes = false
+handingAt Rests = false
+
+-- An event is taken.
+abbrev pub takingAt : Stage → Bool
+takingAt Waits = false
+takingAt HandsOut = false
+takingAt Takes = true
+takingAt Rests = false
+
+abbrev pub takingNow : Act → Stage → Bool
+takingNow Stay g = false
+takingNow Rest g = false
+takingNow (Queue e) g = false
+takingNow (Give a) g = false
+takingNow Turn g = takingAt g
+
+-- The same by the stage, where no event is taken: x is the next effect of the batch, before es.
+abbrev pub turnAt : Effect → List Effect → Stage → Model → Model
+turnAt x es Waits y = y
+turnAt x es HandsOut y = handOut x es y (emits x)
+turnAt x es Takes y = y
+turnAt x es Rests y = failedIs false y
+
+abbrev pub actAt : Effect → List Effect → Act → Stage → Model → Model
+actAt x es Stay g y = y
+actAt x es Rest g y = failedIs false y
+actAt x es (Queue e) g y = enqueue e y
+actAt x es (Give a) g y = replied a (waitingIs Nothing y)
+actAt x es Turn g y = turnAt x es g y
 
 abbrev pub tellingNow : Say → Bool
 tellingNow Silence = false
@@ -147,6 +159,11 @@ Tells StateLine p n = Unit {0}
 Tells StatusLine p n = p < n
 
 -- ---- What is known of them
+
+-- r is the stage of a dispatch with any batch of len effects.
+pub record Due (len : ℕ) (d : Dispatch) (r : Stage) : Type 0 where
+  pub stage : (k : Core) (es : List Effect) → length es ≡ len → r ≡ stageOf (within k es d)
+  pub more : r ≡ HandsOut → d .next < len
 
 -- A cursor within the sheet. Each line has at least one byte.
 pub record Stands (s : List ℕ) (c : Cursor) : Type 0 where

@@ -1,8 +1,9 @@
 // A run of a sheet, in small steps: what the next line or the machine does, and then the line that it writes.
 ghost use mathlib.Core.Path.{_≡_};
-ghost use Prim.Native.Nat.{ℕ, _<_};
+ghost use mathlib.Core.List.{List, _∷_};
+ghost use Prim.Native.Nat.{ℕ, _+_, _<_};
 ghost use lib.Dec.{leb, ltb};
-ghost use lib.ListN.{length};
+ghost use lib.ListN.{length, drop};
 ghost use Rattle.model.specs.Vocabulary.{pick};
 ghost use Rattle.components.specs.Chain.{idAt};
 ghost use Rattle.chain.specs.Tables.{entries};
@@ -11,19 +12,24 @@ ghost use Rattle.machine.specs.View.{statusesOf};
 ghost use Rattle.printed.specs.Transcript.{statusLine};
 ghost use Rattle.pending.specs.Queue.{events};
 ghost use Rattle.text.specs.Lines.{textOf};
-ghost use Rattle.settling.specs.View.{view, chainOf, Whole, Becomes};
-ghost use Rattle.driver.specs.Run.{Setting, Point, silent, answering, handed, reading, stageOf, stepBy, transcript};
+ghost use Rattle.settling.specs.View.{Short, Whole};
+ghost use Rattle.settling.specs.Parts.{Moves};
+ghost use Rattle.driver.specs.Run.{Setting, Point, silent, answering, handed, reading, stepBy, transcript};
 ghost use Rattle.driver.specs.Seen.{runOn, Ran};
-ghost use Rattle.driver.specs.Plans.{atStart, stays, stops, passes, answers, answersBy, begins, readsBy, tellsNext, takes, finishes, touching, actedBy, queuedBy, failedBy, tellingNow, spoken, wrote, Stands, Planned};
+ghost use Rattle.driver.specs.Plans.{atStart, stays, stops, passes, answers, answersBy, begins, readsBy, tellsNext, takes, finishes, handingAt, takingAt, takingNow, turnAt, actAt, tellingNow, spoken, wrote, Stands, Due, Planned};
 use chain::Chain;
 use lines::Row;
 use machine::Rot;
+use model::Effect;
 use model::Event;
 use model::State;
+use pending::OptionEvent;
 use pending::Pending;
+use settling::Dispatch;
 use settling::Machine;
 use settling::Reply;
 use settling::Waiting;
+use store::Slot;
 use text::Line;
 use text::Room;
 
@@ -82,19 +88,19 @@ pub struct End {
     pub written: usize,
 }
 
-fn due(m: Machine) -> Stage
-    requires { ⌜ Whole m ⌝ }
-    ensures { λ r. ⌜ r ≡ stageOf (view m) ⌝ }
+// What a turn would do, with a batch of `len` effects.
+fn due(d: Dispatch, len: usize) -> Stage
+    requires { ⌜ Short d ⌝ }
+    ensures { λ r. ⌜ Due len d r ⌝ }
 {
-    let waiting = m.waiting;
+    let waiting = d.waiting;
     match waiting {
         Waiting::Handed(_) => Stage::Waits,
         Waiting::Nothing => {
-            let batch = m.batch;
-            if m.next < batch.len {
+            if d.next < len {
                 return Stage::HandsOut;
             }
-            let pending = m.pending;
+            let pending = d.pending;
             if 0 < pending.count() {
                 return Stage::Takes;
             }
@@ -286,56 +292,78 @@ fn next_step(sheet: &[u8], limit: u64, n: usize, stage: Stage, c: Cursor) -> Pla
     }
 }
 
-// Does more of the machine change than its queue and its mark of failure?
-fn touches(act: Act) -> bool
-    ensures { λ r. ⌜ r ≡ touching act ⌝ }
+// Does a turn at this stage hand out the next effect?
+fn hands_out(stage: Stage) -> bool
+    ensures { λ r. ⌜ r ≡ handingAt stage ⌝ }
+{
+    match stage {
+        Stage::Waits => false,
+        Stage::HandsOut => true,
+        Stage::Takes => false,
+        Stage::Rests => false,
+    }
+}
+
+// Does a turn at this stage take an event?
+fn is_taking(stage: Stage) -> bool
+    ensures { λ r. ⌜ r ≡ takingAt stage ⌝ }
+{
+    match stage {
+        Stage::Waits => false,
+        Stage::HandsOut => false,
+        Stage::Takes => true,
+        Stage::Rests => false,
+    }
+}
+
+// Is an event taken?
+fn takes(act: Act, stage: Stage) -> bool
+    ensures { λ r. ⌜ r ≡ takingNow act stage ⌝ }
 {
     match act {
         Act::Stay => false,
         Act::Rest => false,
         Act::Queue(_) => false,
-        Act::Give(_) => true,
-        Act::Turn => true,
+        Act::Give(_) => false,
+        Act::Turn => is_taking(stage),
     }
 }
 
-// The machine after it, but for its queue and its mark of failure.
-fn acted(m: Machine, act: Act) -> Machine
-    requires { ⌜ Whole m ⌝ }
-    ensures { λ r. ⌜ Becomes m (actedBy (chainOf m) (m .«max_retry») act (view m)) r ⌝ }
+// The dispatch after a turn that takes no event; `effect` is the next one of a batch of `len`.
+fn turned(d: Dispatch, len: usize, effect: Effect, stage: Stage) -> Dispatch
+    requires { ⌜ (Short d) × (stage ≡ Stage.HandsOut → d .next < len) ⌝ }
+    ensures { λ r. ⌜ Moves len (λ es. turnAt effect (drop (d .next + 1) es) stage) d r ⌝ }
 {
-    match act {
-        Act::Stay => m,
-        Act::Rest => m,
-        Act::Queue(_) => m,
-        Act::Give(reply) => settling::replied(m, reply),
-        Act::Turn => settling::turn(m),
+    match stage {
+        Stage::Waits => d,
+        Stage::HandsOut => settling::hand_out(d, len, effect),
+        Stage::Takes => d,
+        Stage::Rests => settling::rested(d),
     }
 }
 
-// The queue after it.
-fn queued(pending: Pending, act: Act) -> Pending
-    ensures { λ r. ⌜ events r ≡ queuedBy act (events pending) ⌝ }
+// The dispatch after an act that takes no event.
+fn acted(d: Dispatch, len: usize, effect: Effect, act: Act, stage: Stage) -> Dispatch
+    requires { ⌜ (Short d) × (stage ≡ Stage.HandsOut → d .next < len) ⌝ }
+    ensures { λ r. ⌜ Moves len (λ es. actAt effect (drop (d .next + 1) es) act stage) d r ⌝ }
 {
     match act {
-        Act::Stay => pending,
-        Act::Rest => pending,
-        Act::Queue(event) => pending.push_back(event),
-        Act::Give(_) => pending,
-        Act::Turn => pending,
+        Act::Stay => d,
+        Act::Rest => settling::rested(d),
+        Act::Queue(event) => settling::enqueue(d, len, event),
+        Act::Give(reply) => settling::replied(d, len, reply),
+        Act::Turn => turned(d, len, effect, stage),
     }
 }
 
-// Does the dispatch count as failed after it?
-fn failing(failed: bool, act: Act) -> bool
-    ensures { λ r. ⌜ r ≡ failedBy act failed ⌝ }
+// The front event. Of an empty queue it is EffectFailed, which lets nothing run.
+fn front_event(pending: Pending) -> Event
+    ensures { λ r. ⌜ ((e : Event) (q : List Event) → events pending ≡ e ∷ q → r ≡ e) ⌝ }
 {
-    match act {
-        Act::Stay => failed,
-        Act::Rest => false,
-        Act::Queue(_) => failed,
-        Act::Give(_) => failed,
-        Act::Turn => failed,
+    let front = pending.front();
+    match front {
+        OptionEvent::NoEvent => Event::EffectFailed,
+        OptionEvent::OneEvent(event) => event,
     }
 }
 
@@ -424,25 +452,42 @@ pub fn drive(sheet: &[u8], out: &mut [u8], limit: u64, machine: Machine) -> End
 {
     let chain = machine.chain;
     let n = chain.count();
+    let none = Slot {
+        effect: Effect::LatchLockdown,
+    };
     let mut m = machine;
     let mut c = start();
     while c.going {
-        let stage = due(m);
+        let d = m.dispatch;
+        let len = m.work.sink.len;
+        let work = m.work;
+        let state = work.state;
+        let stage = due(d, len);
         let step = next_step(sheet, limit, n, stage, c);
         let act = step.act;
         let say = step.say;
-        let state = m.state;
-        if touches(act) {
-            m = acted(m, act);
+        let mut slot = none;
+        if hands_out(stage) {
+            let sink = m.work.sink;
+            slot = Slot {
+                effect: sink.get(d.next),
+            };
         }
-        let pending = m.pending;
-        let queue = queued(pending, act);
-        m.pending = queue;
-        m.failed = failing(m.failed, act);
-        let waiting = m.waiting;
+        let effect = slot.effect;
+        let mut after = acted(d, len, effect, act, stage);
+        if takes(act, stage) {
+            let rot = m.work.rot;
+            let pending = d.pending;
+            let event = front_event(pending);
+            let stepped = rot::step(m.chain, m.max_retry, state, rot, event);
+            m.work = stepped;
+            after = settling::taken(d);
+        }
+        m.dispatch = after;
+        let waiting = after.waiting;
         let mut line = said_line(say, state, waiting);
         if tells(say) {
-            let rot = m.rot;
+            let rot = m.work.rot;
             line = told_line(chain, rot, n, c.told);
         }
         let next = step.cursor;

@@ -177,13 +177,8 @@ unfoldable pub storeOf : ComponentList → ℕ → Model → Machine
 storeOf l max m = record {
   chain = chartOf l;
   «max_retry» = max;
-  state = m .core .state;
-  rot = rotOf (m .core);
-  batch = sinkOf (m .left);
-  next = 0;
-  waiting = m .waiting;
-  pending = pendingOf (m .queue);
-  failed = m .failed;
+  work = record { state = m .core .state; rot = rotOf (m .core); sink = sinkOf (m .left) };
+  dispatch = record { next = 0; waiting = m .waiting; pending = pendingOf (m .queue); failed = m .failed };
 }
 
 -- A machine of the definitions that fits into the struct.
@@ -197,10 +192,10 @@ pub record Fitting (n : ℕ) (m : Model) : Type 0 where
 pub record Sizes (m : Machine) : Type 0 where
   pub positions : length (m .chain .positions) ≡ 256
   pub parents : length (m .chain .parents) ≡ 255
-  pub statuses : length (m .rot .statuses) ≡ 255
-  pub words : length (m .rot .isolated .words) ≡ 4
-  pub effects : length (m .batch .effects) ≡ 512
-  pub entries : length (m .pending .entries) ≡ 8
+  pub statuses : length (m .work .rot .statuses) ≡ 255
+  pub words : length (m .work .rot .isolated .words) ≡ 4
+  pub effects : length (m .work .sink .effects) ≡ 512
+  pub entries : length (m .dispatch .pending .entries) ≡ 8
 
 module _ (l : ComponentList) (s : Sound (l .len) (entriesOf l)) (max : ℕ) (m : Model) (f : Fitting (length (entriesOf l)) m) where
   most : length (entriesOf l) ≤ 255

@@ -18,7 +18,7 @@ use Rattle.chain.specs.declared.Chain.{Chain}
 use Rattle.chain.specs.Tables.{entries, size}
 use Rattle.store.specs.declared.Sink.{Sink}
 use Rattle.store.specs.Sink.{effectOf, held, effectAt}
-use Rattle.store.proofs.Laws.{held-length, at-held}
+use Rattle.store.proofs.Laws.{at-held}
 use Rattle.pending.specs.declared.Pending.{Pending}
 use Rattle.pending.specs.declared.OptionEvent.{OptionEvent}
 use Rattle.pending.specs.declared.OptionEvent.the-variants.{NoEvent, OneEvent}
@@ -45,6 +45,9 @@ pends p b d = record { next = d .next; waiting = d .waiting; pending = p; failed
 
 abbrev pub puts : Dispatch → Machine → Machine
 puts d m = record { chain = m .chain; «max_retry» = m .«max_retry»; work = m .work; dispatch = d }
+
+abbrev pub works : Work → Dispatch → Machine → Machine
+works w d m = record { chain = m .chain; «max_retry» = m .«max_retry»; work = w; dispatch = d }
 
 -- The next effect of the batch, and those after it.
 abbrev pub nextEffect : Machine → Effect
@@ -111,11 +114,10 @@ module _ (m : Machine) (w : Whole m) where
   unfolding view
   left-none h = drop-of-length-le (held (m .work .sink)) {i = m .dispatch .next} (omega (arith, held-short))
 
-  pub left-some : length (m .work .sink .effects) ≡ 512 → m .dispatch .next < m .work .sink .len → view m .left ≡ nextEffect m ∷ after m
+  pub left-some : length (held (m .work .sink)) ≡ m .work .sink .len → m .dispatch .next < m .work .sink .len → view m .left ≡ nextEffect m ∷ after m
   unfolding view
-  left-some f h =
-      let n : length (held (m .work .sink)) ≡ m .work .sink .len = held-length (m .work .sink) f (w .room) in
-      drop-cons (held (m .work .sink)) (m .dispatch .next) LatchLockdown (omega arith)
+  left-some n h =
+      drop-cons (held (m .work .sink)) (m .dispatch .next) LatchLockdown (omega (arith, n, h))
       ∙ (λ j. sym (at-held (m .work .sink) (m .dispatch .next) h) j ∷ drop (sym (add-one (m .dispatch .next)) j) (held (m .work .sink)))
 
 -- An event for the queue: it fits, or it is lost and nothing new fails, or it is the first failure.
@@ -178,15 +180,12 @@ chain-few : (c : Chain) (w : Work) → Sane c w → size c ≤ 255
 chain-few c w s = omega (arith, length-take (c .list .len) (c .list .entries), s .sound .few)
 
 module _ (m : Machine) (w : Whole m) (e : Event) (s : Work) (d : Dispatch) where
-  abbrev pub steppedTo : Machine
-  steppedTo = record { chain = m .chain; «max_retry» = m .«max_retry»; work = s; dispatch = d }
-
   short : (q : List Event) → length q ≤ 8 → length (rest q) ≤ 8
   short [] h = omega arith
   short (x ∷ q) h = omega arith
 
   pub stepped-becomes : Stepped (m .chain) (m .«max_retry») (bare (m .work .state) (m .work .rot)) e s → Taken (m .dispatch) d
-      → Becomes m (take·front (chainOf m) (m .«max_retry») e (rest (view m .queue)) (view m)) steppedTo
+      → Becomes m (take·front (chainOf m) (m .«max_retry») e (rest (view m .queue)) (view m)) (works s d m)
   unfolding view
   stepped-becomes g t = record {
     machine = λ j. record { core = g .core j; waiting = t .waiting j; left = drop (t .next j) (g .effects j); queue = t .queue j; failed = t .failed j };

@@ -46,6 +46,7 @@ use model::PowerOnResult;
 use model::RegionId;
 use model::State;
 use pending::Pending;
+use settling::Dispatch;
 use settling::Machine;
 use settling::Reply;
 use settling::Waiting;
@@ -573,7 +574,7 @@ fn put_rest(out: &mut [u8], from: usize, m: Machine) -> usize {
 }
 
 fn write_call(number: u64, effect: Waiting, m: Machine) {
-    let rot = m.rot;
+    let rot = m.work.rot;
     let mut out = [0u8; 16384];
     let a = put_number(&mut out, 0, number);
     let b = put_row(&mut out, a, waiting_numbers(effect));
@@ -606,13 +607,17 @@ fn set_up(ns: &[u64], m: Machine) -> Machine
     Machine {
         chain: chain,
         max_retry: m.max_retry,
-        state: state_at(ns, 1),
-        rot: rot,
-        batch: Sink::new(),
-        next: 0,
-        waiting: Waiting::Nothing,
-        pending: Pending::new(),
-        failed: false,
+        work: Work {
+            state: state_at(ns, 1),
+            rot: rot,
+            sink: Sink::new(),
+        },
+        dispatch: Dispatch {
+            next: 0,
+            waiting: Waiting::Nothing,
+            pending: Pending::new(),
+            failed: false,
+        },
     }
 }
 

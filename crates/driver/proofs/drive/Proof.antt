@@ -1,26 +1,35 @@
 -- `drive` meets its contract: what is written so far, and the steps that are left, give the whole run.
-use mathlib.Core.Path.{_≡_, sym, ap, _∙_}
+use mathlib.Core.Path.{_≡_, sym, ap, _∙_, subst}
 use mathlib.Core.Logic.{⊎-elim}
 use borrow.Author.Needs.{needs}
-use Rattle.driver.proofs.Going.{Going, measure, becomes-is, kept, marks, tells-one, line-said, line-told-of, began, long, ends, goes-on, comes-down}
+use Rattle.driver.proofs.Going.{Going, measure, becomes-is, tells-one, line-said, line-told-of, began, long, ends, goes-on, comes-down}
+use Rattle.driver.proofs.Moves.{due-now, acts-kept, acts-took, took-full}
 use lib.ListN.{length}
+use Rattle.model.specs.declared.Event.{Event}
+use Rattle.model.proofs.Arrays.{unmap}
 use Rattle.chain.specs.declared.Chain.{Chain}
 use Rattle.chain.specs.Tables.{entries}
+use Rattle.store.specs.declared.Slot.{Slot}
+use Rattle.store.specs.Sink.{held}
+use Rattle.store.proofs.Laws.{held-length}
+use Rattle.rot.specs.Stepped.{bare, Stepped}
 use Rattle.text.specs.declared.Line.{Line}
 use Rattle.text.specs.Lines.{textOf}
+use Rattle.settling.specs.declared.Machine.{Machine}
 use Rattle.settling.specs.View.{view, chainOf, Becomes}
-use Rattle.settling.proofs.Views.{pends}
+use Rattle.settling.proofs.Views.{puts, nextEffect, never}
+use Rattle.driver.specs.declared.Stage.the-variants.{HandsOut}
 use Rattle.driver.specs.Run.{transcript}
 use Rattle.driver.specs.Seen.{seen}
-use Rattle.driver.specs.Plans.{actedBy, acts, says}
+use Rattle.driver.specs.Plans.{handingAt, acts, says}
 use Rattle.driver.proofs.drive.Statement.{statement}
 use Rattle.driver.proofs.drive.Tie as tie
 
 abbrev Inv-loop : tie.InvT-loop
-Inv-loop sheet out₀ limit chain n m₀ c₀ out m c = Going sheet out₀ limit m₀ out m c
+Inv-loop sheet out₀ limit chain n none m₀ c₀ out m c = Going sheet out₀ limit m₀ out m c
 
 abbrev μ-loop : tie.MeasureT-loop
-μ-loop sheet out₀ limit chain n m₀ c₀ out m c = measure sheet limit m₀ m c
+μ-loop sheet out₀ limit chain n none m₀ c₀ out m c = measure sheet limit m₀ m c
 
 count-requires : tie.Need-count-requires Inv-loop μ-loop
 count-requires c κs = search needs
@@ -28,40 +37,79 @@ count-requires c κs = search needs
 start-requires : tie.Need-start-requires Inv-loop μ-loop
 start-requires c κs = search needs
 
+slots : (s : tie.Start Inv-loop μ-loop) → length (s .args .machine .work .sink .effects) ≡ 512
+slots s = search (needs, unmap)
+
 loop-holds : tie.Need-loop-holds Inv-loop μ-loop
-loop-holds c = let start = c .before .before .before .before .before in began (start .args .sheet .now) (start .args .out .now) (start .args .limit) (start .args .machine) (start .pre) (c .start .result) (c .start .ensures)
+loop-holds c =
+    let start = c .before .before .before .before .before in
+    let m = start .args .machine in
+    began (start .args .sheet .now) (start .args .out .now) (start .args .limit) m (start .pre) (held-length (m .work .sink) (slots start) (start .pre .room)) (c .start .result) (c .start .ensures)
 
 due-requires : tie.Need-due-requires Inv-loop μ-loop
-due-requires c κs = c .before .loop .inv .whole
+due-requires c κs = c .before .before .before .loop .inv .whole .few
 
 next-step-requires : tie.Need-next-step-requires Inv-loop μ-loop
-next-step-requires c κs = c .before .before .loop .inv .stands
+next-step-requires c κs = c .before .before .before .before .loop .inv .stands
 
-touches-requires : tie.Need-touches-requires Inv-loop μ-loop
-touches-requires c κs = search needs
+hands-out-requires : tie.Need-hands-out-requires Inv-loop μ-loop
+hands-out-requires c κs = search needs
 
-acted-requires : tie.Need-acted-requires Inv-loop μ-loop
-acted-requires c κs = c .before .before .before .before .before .loop .inv .whole
+get-requires : tie.Need-get-requires Inv-loop μ-loop
+get-requires c κs = search needs
 
--- The machine after the step.
-became : (c : tie.Joined1 Inv-loop μ-loop) → Becomes (c .before .before .before .before .before .loop .m) (actedBy (chainOf (c .before .before .before .before .before .loop .m)) (c .before .before .before .before .before .loop .m .«max_retry») (c .before .before .next-step .result .act) (view (c .before .before .before .before .before .loop .m))) (c .if1 .m)
-became c =
-    let loop = c .before .before .before .before .before .loop in
-    let touches = c .before .touches in
+-- The effect that is handed out, if one is.
+shown : (c : tie.Joined1 Inv-loop μ-loop) → c .before .before .before .due .result ≡ HandsOut → c .if1 .slot .effect ≡ nextEffect (c .before .before .before .before .before .before .before .loop .m)
+shown c h =
+    let hands = c .before .hands-out in
     ⊎-elim
-    (λ w. becomes-is (w .1 .ensures) (w .2))
-    (λ w. becomes-is (kept (loop .m) (c .before .before .next-step .result .act) (sym (touches .ensures) ∙ w .0 .left) (loop .inv .whole)) (w .1))
+    (λ w. ap (λ (k : Slot). k .effect) (w .3) ∙ w .2 .ensures)
+    (λ w. never (sym (sym (hands .ensures) ∙ w .0 .left) ∙ ap handingAt h))
     (c .if1 .came)
 
-queued-requires : tie.Need-queued-requires Inv-loop μ-loop
-queued-requires c κs = search needs
+acted-requires : tie.Need-acted-requires Inv-loop μ-loop
+acted-requires c κs = (c .before .before .before .before .before .before .before .loop .inv .whole .few, c .before .before .before .due .ensures .more)
 
-failing-requires : tie.Need-failing-requires Inv-loop μ-loop
-failing-requires c κs = search needs
+takes-requires : tie.Need-takes-requires Inv-loop μ-loop
+takes-requires c κs = search needs
 
--- And its queue and its mark of failure.
-made : (c : tie.After-failing Inv-loop μ-loop) → Becomes (c .before .before .before .before .before .before .before .before .loop .m) (acts (chainOf (c .before .before .before .before .before .before .before .before .loop .m)) (c .before .before .before .before .before .before .before .before .loop .m .«max_retry») (c .before .before .before .before .before .next-step .result .act) (view (c .before .before .before .before .before .before .before .before .loop .m))) (pends (c .before .queued .result) (c .failing .result) (c .before .before .before .if1 .m))
-made c = marks (c .before .before .before .before .before .next-step .result .act) (became (c .before .before .before)) (c .before .queued .result) (c .before .queued .ensures) (c .failing .result) (c .failing .ensures)
+front-event-requires : tie.Need-front-event-requires Inv-loop μ-loop
+front-event-requires c κs = search needs
+
+step-requires : tie.Need-step-requires Inv-loop μ-loop
+step-requires c κs = c .before .before .before .before .before .before .before .before .before .before .before .before .before .loop .inv .whole .sane
+
+taken-requires : tie.Need-taken-requires Inv-loop μ-loop
+taken-requires c κs = search needs
+
+-- The machine before the step, and after it.
+abbrev old : tie.Joined2 Inv-loop μ-loop → Machine
+old c = c .before .before .before .before .before .before .before .before .before .before .loop .m
+
+abbrev new : tie.Joined2 Inv-loop μ-loop → Machine
+new c = puts (c .if2 .after) (c .if2 .m)
+
+made : (c : tie.Joined2 Inv-loop μ-loop) → Becomes (old c) (acts (chainOf (old c)) (old c .«max_retry») (c .before .before .before .before .before .next-step .result .act) (view (old c))) (new c)
+made c =
+    let inv = c .before .before .before .before .before .before .before .before .before .before .loop .inv in
+    let act = c .before .before .before .before .before .next-step .result .act in
+    let due = c .before .before .before .before .before .before .due in
+    let takes = c .before .takes in
+    ⊎-elim
+    (λ w. becomes-is (acts-took (old c) (inv .whole) (inv .full) (due .result) (due .ensures) (w .4 .result) (λ e q h. subst (λ (x : Event). Stepped (old c .chain) (old c .«max_retry») (bare (old c .work .state) (old c .work .rot)) x (w .4 .result)) (w .3 .ensures e q h) (w .4 .ensures)) (w .5 .result) (w .5 .ensures) act (sym (takes .ensures) ∙ w .0 .taken)) (λ j. puts (w .7 j) (w .6 j)))
+    (λ w. becomes-is (acts-kept (old c) (inv .whole) (inv .full) (due .result) (due .ensures) act (c .before .before .before .if1 .slot .effect) (shown (c .before .before .before)) (sym (takes .ensures) ∙ w .0 .left) (c .before .before .acted .result) (c .before .before .acted .ensures)) (λ j. puts (w .2 j) (w .1 j)))
+    (c .if2 .came)
+
+full : (c : tie.Joined2 Inv-loop μ-loop) → length (held (new c .work .sink)) ≡ new c .work .sink .len
+full c =
+    let inv = c .before .before .before .before .before .before .before .before .before .before .loop .inv in
+    let act = c .before .before .before .before .before .next-step .result .act in
+    let due = c .before .before .before .before .before .before .due in
+    let takes = c .before .takes in
+    ⊎-elim
+    (λ w. subst (λ (m : Machine). length (held (m .work .sink)) ≡ m .work .sink .len) (sym (w .6)) (took-full (old c) (inv .whole) (inv .full) (due .result) (due .ensures) (w .4 .result) (λ e q h. subst (λ (x : Event). Stepped (old c .chain) (old c .«max_retry») (bare (old c .work .state) (old c .work .rot)) x (w .4 .result)) (w .3 .ensures e q h) (w .4 .ensures)) (w .5 .result) (w .5 .ensures) act (sym (takes .ensures) ∙ w .0 .taken)))
+    (λ w. subst (λ (m : Machine). length (held (m .work .sink)) ≡ m .work .sink .len) (sym (w .1)) (inv .full))
+    (c .if2 .came)
 
 said-line-requires : tie.Need-said-line-requires Inv-loop μ-loop
 said-line-requires c κs = search needs
@@ -72,22 +120,22 @@ tells-requires c κs = search needs
 told-line-requires : tie.Need-told-line-requires Inv-loop μ-loop
 told-line-requires c κs =
     let plan = c .before .before .before .before .before .before .before .before .before .next-step in
-    (c .before .before .before .before .before .before .before .before .before .before .before .before .before .before .count .ensures .0, tells-one (plan .result .say) _ _ (sym (c .before .before .tells .ensures) ∙ c .before .if2 .taken) (plan .ensures .tells))
+    (c .before .before .before .before .before .before .before .before .before .before .before .before .before .before .before .before .count .ensures .0, tells-one (plan .result .say) _ _ (sym (c .before .before .tells .ensures) ∙ c .before .if3 .taken) (plan .ensures .tells))
 
 -- The line that it writes.
-told : (c : tie.Joined2 Inv-loop μ-loop) → textOf (c .if2 .line) ≡ transcript (says (chainOf (c .before .before .before .before .before .before .before .before .before .before .before .before .before .before .before .before .before .args .machine)) (c .before .before .before .before .before .before .before .before .next-step .result .say) (view (c .before .before .before .before .before .before .before .before .before .before .before .loop .m)) (view (pends (c .before .before .before .before .queued .result) (c .before .before .before .failing .result) (c .before .before .before .before .before .before .if1 .m))) (c .before .before .before .before .before .before .before .before .before .before .before .loop .c .told))
+told : (c : tie.Joined3 Inv-loop μ-loop) → textOf (c .if3 .line) ≡ transcript (says (chainOf (c .before .before .before .before .before .before .before .before .before .before .before .before .before .before .before .before .before .before .before .args .machine)) (c .before .before .before .before .before .before .before .before .next-step .result .say) (view (old (c .before .before .before))) (view (new (c .before .before .before))) (c .before .before .before .before .before .before .before .before .before .before .before .before .before .loop .c .told))
 told c =
-    let loop = c .before .before .before .before .before .before .before .before .before .before .before .loop in
-    let ch = chainOf (c .before .before .before .before .before .before .before .before .before .before .before .before .before .before .before .before .before .args .machine) in
+    let loop = c .before .before .before .before .before .before .before .before .before .before .before .before .before .loop in
+    let ch = chainOf (c .before .before .before .before .before .before .before .before .before .before .before .before .before .before .before .before .before .before .before .args .machine) in
     let say = c .before .before .before .before .before .before .before .before .next-step .result .say in
-    let v = pends (c .before .before .before .before .queued .result) (c .before .before .before .failing .result) (c .before .before .before .before .before .before .if1 .m) in
+    let v = new (c .before .before .before) in
     let tells = c .before .tells in
-    let count = c .before .before .before .before .before .before .before .before .before .before .before .before .before .count in
+    let count = c .before .before .before .before .before .before .before .before .before .before .before .before .before .before .before .count in
     let same = ap (λ (k : Chain). length (entries k)) (made (c .before .before .before) .chain ∙ loop .inv .chain) in
     ⊎-elim
     (λ w. ap (λ (l : Line). textOf l) (w .3) ∙ w .2 .ensures ∙ line-told-of ch (loop .m) v (loop .c .told) (count .result) (count .ensures .0 ∙ sym same) say (sym (tells .ensures) ∙ w .0 .taken))
     (λ w. ap (λ (l : Line). textOf l) (w .1) ∙ c .before .before .said-line .ensures ∙ ap transcript (line-said ch (loop .m) v (loop .c .told) say (sym (tells .ensures) ∙ w .0 .left)))
-    (c .if2 .came)
+    (c .if3 .came)
 
 append-requires : tie.Need-append-requires Inv-loop μ-loop
 append-requires c κs = search needs
@@ -97,23 +145,27 @@ record-line-requires c κs = search needs
 
 loop-less : tie.Need-loop-less Inv-loop μ-loop
 loop-less c =
-    let start = c .before .before .before .before .before .before .before .before .before .before .before .before .before .before .before .before .before .before .before .before .before .before .before in
-    let loop = c .before .before .before .before .before .before .before .before .before .before .before .before .before .before .before .before .before .loop in
+    let start = c .before .before .before .before .before .before .before .before .before .before .before .before .before .before .before .before .before .before .before .before .before .before .before .before .before in
+    let loop = c .before .before .before .before .before .before .before .before .before .before .before .before .before .before .before .before .before .before .before .loop in
     let due = c .before .before .before .before .before .before .before .before .before .before .before .before .before .before .before .due in
     let plan = c .before .before .before .before .before .before .before .before .before .before .before .before .before .before .next-step in
     let append = c .before .before .before .append in
-    comes-down (start .args .sheet .now) (start .args .out .now) (start .args .limit) (start .args .machine) (loop .out) (loop .m) (loop .c) (loop .inv) (c .before .before .before .before .before .before .before .before .before .before .before .before .before .before .before .before .loop-test .taken) (c .before .before .before .before .before .before .before .before .before .before .before .before .before .before .before .before .before .before .before .count .result) (c .before .before .before .before .before .before .before .before .before .before .before .before .before .before .before .before .before .before .before .count .ensures .0)
-    (due .result) (due .ensures) (plan .result) (plan .ensures) _ (made (c .before .before .before .before .before .before .before .before .before)) (c .before .before .before .before .before .before .if2 .line) (told (c .before .before .before .before .before .before)) (append .result) (c .record-line .result) (c .record-line .ensures)
+    let count = c .before .before .before .before .before .before .before .before .before .before .before .before .before .before .before .before .before .before .before .before .before .count in
+    let inv = loop .inv in
+    comes-down (start .args .sheet .now) (start .args .out .now) (start .args .limit) (start .args .machine) (loop .out) (loop .m) (loop .c) inv (c .before .before .before .before .before .before .before .before .before .before .before .before .before .before .before .before .before .before .loop-test .taken) (count .result) (count .ensures .0)
+    (due .result) (due-now (loop .m) (inv .whole) (inv .full) (due .result) (due .ensures)) (plan .result) (plan .ensures) (new (c .before .before .before .before .before .before .before .before .before)) (made (c .before .before .before .before .before .before .before .before .before)) (full (c .before .before .before .before .before .before .before .before .before)) (c .before .before .before .before .before .before .if3 .line) (told (c .before .before .before .before .before .before)) (append .result) (c .record-line .result) (c .record-line .ensures)
 
 loop-again : tie.Need-loop-again Inv-loop μ-loop
 loop-again c =
-    let start = c .before .before .before .before .before .before .before .before .before .before .before .before .before .before .before .before .before .before .before .before .before .before .before in
-    let loop = c .before .before .before .before .before .before .before .before .before .before .before .before .before .before .before .before .before .loop in
+    let start = c .before .before .before .before .before .before .before .before .before .before .before .before .before .before .before .before .before .before .before .before .before .before .before .before .before in
+    let loop = c .before .before .before .before .before .before .before .before .before .before .before .before .before .before .before .before .before .before .before .loop in
     let due = c .before .before .before .before .before .before .before .before .before .before .before .before .before .before .before .due in
     let plan = c .before .before .before .before .before .before .before .before .before .before .before .before .before .before .next-step in
     let append = c .before .before .before .append in
-    goes-on (start .args .sheet .now) (start .args .out .now) (start .args .limit) (start .args .machine) (loop .out) (loop .m) (loop .c) (loop .inv) (c .before .before .before .before .before .before .before .before .before .before .before .before .before .before .before .before .loop-test .taken) (c .before .before .before .before .before .before .before .before .before .before .before .before .before .before .before .before .before .before .before .count .result) (c .before .before .before .before .before .before .before .before .before .before .before .before .before .before .before .before .before .before .before .count .ensures .0)
-    (due .result) (due .ensures) (plan .result) (plan .ensures) _ (made (c .before .before .before .before .before .before .before .before .before)) (c .before .before .before .before .before .before .if2 .line) (told (c .before .before .before .before .before .before)) (append .result) (c .record-line .result) (c .record-line .ensures) (append .ensures .0) _ (append .ensures .1)
+    let count = c .before .before .before .before .before .before .before .before .before .before .before .before .before .before .before .before .before .before .before .before .before .count in
+    let inv = loop .inv in
+    goes-on (start .args .sheet .now) (start .args .out .now) (start .args .limit) (start .args .machine) (loop .out) (loop .m) (loop .c) inv (c .before .before .before .before .before .before .before .before .before .before .before .before .before .before .before .before .before .before .loop-test .taken) (count .result) (count .ensures .0)
+    (due .result) (due-now (loop .m) (inv .whole) (inv .full) (due .result) (due .ensures)) (plan .result) (plan .ensures) (new (c .before .before .before .before .before .before .before .before .before)) (made (c .before .before .before .before .before .before .before .before .before)) (full (c .before .before .before .before .before .before .before .before .before)) (c .before .before .before .before .before .before .if3 .line) (told (c .before .before .before .before .before .before)) (append .result) (c .record-line .result) (c .record-line .ensures) (append .ensures .0) _ (append .ensures .1)
 
 same-length : tie.Need-same-length Inv-loop μ-loop
 same-length c = long _ _ _ _ (c .before .loop .out) (c .before .loop .m) (c .before .loop .c) (c .before .loop .inv)
@@ -135,10 +187,13 @@ drive-spec =
     loop-holds
     due-requires
     next-step-requires
-    touches-requires
+    hands-out-requires
+    get-requires
     acted-requires
-    queued-requires
-    failing-requires
+    takes-requires
+    front-event-requires
+    step-requires
+    taken-requires
     said-line-requires
     tells-requires
     told-line-requires

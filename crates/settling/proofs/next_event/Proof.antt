@@ -4,6 +4,8 @@ use mathlib.Core.Path.{_≡_, refl, sym, _∙_}
 use mathlib.Core.List.{[], _∷_}
 use lib.ListN.{length}
 use Rattle.model.proofs.Arrays.{unmap}
+use Rattle.store.specs.Sink.{held}
+use Rattle.store.proofs.Laws.{held-length}
 use Rattle.pending.specs.Queue.{events}
 use Rattle.settling.specs.declared.Waiting.the-variants.{Nothing, Handed}
 use Rattle.settling.specs.View.{view}
@@ -15,6 +17,9 @@ use Rattle.settling.proofs.next_event.Tie as tie
 slots : (s : tie.Start) → length (s .args .m .work .sink .effects) ≡ 512
 slots s = search (needs, unmap)
 
+full : (s : tie.Start) → length (held (s .args .m .work .sink)) ≡ s .args .m .work .sink .len
+full s = held-length (s .args .m .work .sink) (slots s) (s .pre .room)
+
 enum-told : tie.Need-enum-told
 enum-told c = search needs
 
@@ -25,7 +30,7 @@ returns : tie.Need-returns
 returns c =
     let s = c .before .before .before .before .before .before in
     let m = s .args .m in
-    sym (taken-by (view m) Nothing (nextEffect m ∷ after m) (view m .queue) (view-waiting m ∙ c .before .before .before .enum-told2 .given .1) (left-some m (s .pre) (slots s) (c .if1 .taken)) refl)
+    sym (taken-by (view m) Nothing (nextEffect m ∷ after m) (view m .queue) (view-waiting m ∙ c .before .before .before .enum-told2 .given .1) (left-some m (s .pre) (full s) (c .if1 .taken)) refl)
 
 front-requires : tie.Need-front-requires
 front-requires c κs = search needs

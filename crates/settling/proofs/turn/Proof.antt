@@ -5,6 +5,7 @@ use mathlib.Core.List.{List, [], _∷_}
 use lib.ListN.{length, drop}
 use Rattle.model.specs.declared.Effect.{Effect}
 use Rattle.model.proofs.Arrays.{unmap}
+use Rattle.store.proofs.Laws.{held-length}
 use Rattle.store.specs.Sink.{held}
 use Rattle.pending.specs.Queue.{events, firstOf, rest, emits}
 use Rattle.pending.proofs.Laws.{first-none, first-one}
@@ -18,6 +19,9 @@ use Rattle.settling.proofs.turn.Tie as tie
 
 slots : (s : tie.Start) → length (s .args .m .work .sink .effects) ≡ 512
 slots s = search (needs, unmap)
+
+full : (s : tie.Start) → length (held (s .args .m .work .sink)) ≡ s .args .m .work .sink .len
+full s = held-length (s .args .m .work .sink) (slots s) (s .pre .room)
 
 enum-told : tie.Need-enum-told
 enum-told c = search needs
@@ -38,7 +42,7 @@ returns c =
     let x = c .before .get in
     becomes-as (moves-becomes m (s .pre) _ (c .hand-out .result) (c .hand-out .ensures))
     (ap (λ (e : Effect). handOut e (after m) (view m) (emits e)) (x .ensures)
-    ∙ sym (turn-by (chainOf m) (m .«max_retry») (view m) Nothing (nextEffect m ∷ after m) (view m .queue) (view-waiting m ∙ c .before .before .before .before .before .before .enum-told2 .given .1) (left-some m (s .pre) (slots s) (c .before .before .if1 .taken)) refl))
+    ∙ sym (turn-by (chainOf m) (m .«max_retry») (view m) Nothing (nextEffect m ∷ after m) (view m .queue) (view-waiting m ∙ c .before .before .before .before .before .before .enum-told2 .given .1) (left-some m (s .pre) (full s) (c .before .before .if1 .taken)) refl))
 
 front-requires : tie.Need-front-requires
 front-requires c κs = search needs

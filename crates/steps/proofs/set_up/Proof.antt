@@ -20,7 +20,7 @@ use Rattle.steps.proofs.set_up.Statement.{statement}
 use Rattle.steps.proofs.set_up.Tie as tie
 
 abbrev laid : Machine → ℕ → State → Rot → Sink → Pending → Machine
-laid m max st r b q = record { chain = m .chain; «max_retry» = max; state = st; rot = r; batch = b; next = 0; waiting = Nothing; pending = q; failed = false }
+laid m max st r b q = record { chain = m .chain; «max_retry» = max; work = record { state = st; rot = r; sink = b }; dispatch = record { next = 0; waiting = Nothing; pending = q; failed = false } }
 
 empty-valid : (m : Machine) (max : ℕ) (st : State) (r : Rot) → Valid m → Fit (size (m .chain)) r → Valid (laid m max st r emptySink noEvents)
 unfolding view held events
