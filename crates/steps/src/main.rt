@@ -662,11 +662,13 @@ fn fail_planted(ns: &[u64], m: Machine) -> Machine
     requires { ⌜ Valid m ⌝ }
     ensures { λ r. ⌜ Valid r ⌝ }
 {
-    let failed_before = m.failed;
-    let mut v = settling::replied(m, Reply::Failed);
-    let latched = v.pending;
-    let queue = planted(ns, failed_before, latched);
-    v.pending = queue;
+    let d = m.dispatch;
+    let mut after = settling::replied(d, m.work.sink.len, Reply::Failed);
+    let latched = after.pending;
+    let queue = planted(ns, d.failed, latched);
+    after.pending = queue;
+    let mut v = m;
+    v.dispatch = after;
     settling::settle(v)
 }
 
@@ -675,7 +677,7 @@ fn answer_planted(ns: &[u64], m: Machine) -> Machine
     requires { ⌜ Valid m ⌝ }
     ensures { λ r. ⌜ Valid r ⌝ }
 {
-    let waiting = m.waiting;
+    let waiting = sm::waiting(m);
     match waiting {
         Waiting::Nothing => keep_called(sm::reply(m, Reply::Failed)),
         Waiting::Handed(_) => {
