@@ -2,8 +2,11 @@
  * be given to the other programs too. What guides it: the blocks of traps.c, the
  * numbers of the answer, and which lines follow which in the transcript. */
 #include "hold.h"
+#include "judge.h"
 #include "traps.h"
 
+#include <inttypes.h>
+#include <stdio.h>
 #include <stdlib.h>
 #include <string.h>
 
@@ -14,11 +17,20 @@ __attribute__((used, section("__libfuzzer_extra_counters"))) static uint8_t feat
 int LLVMFuzzerInitialize(int *argc, char ***argv);
 int LLVMFuzzerTestOneInput(const uint8_t *data, size_t size);
 
+static void say(void)
+{
+    fprintf(stderr, "checks %" PRIu64 "\nruns %" PRIu64 "\nruns_that_gave", hold_checks, hold_runs);
+    for (int number = 0; number < 10; number++)
+        fprintf(stderr, " %" PRIu64, hold_given[number]);
+    fprintf(stderr, "\nanswers_compared %" PRIu64 "\n", judge_compared());
+}
+
 int LLVMFuzzerInitialize(int *argc, char ***argv)
 {
     (void)argc;
     (void)argv;
     traps_set(getenv("BLOCKS"));
+    atexit(say);
     return 0;
 }
 

@@ -1,4 +1,5 @@
 #include "hold.h"
+#include "judge.h"
 #include "place.h"
 
 #include <inttypes.h>
@@ -66,6 +67,7 @@ static struct mallardtray_answer check(const struct sheet *sheet, enum side side
     must(got.number <= 6, "check gives 0 to 6", got);
     must(got.written == 0 && got.settled == 0, "check writes and settles nothing", got);
     sheet_kept(sheet, place, got);
+    judge_check(got);
     return got;
 }
 
@@ -101,6 +103,7 @@ static struct mallardtray_answer run(const struct sheet *sheet, enum side side, 
     else if (got.written > 0)
         must(memcmp(out.start, transcript, got.written) == 0, "the transcript's beginning", got);
     sheet_kept(sheet, in, got);
+    judge_run(out.start, length, limit, got);
     place_return(out);
     return got;
 }
@@ -168,6 +171,7 @@ struct widest hold(const uint8_t *text, size_t length, size_t sweep)
 {
     struct sheet sheet = {.text = text, .length = length};
     fill();
+    judge_sheet(text, length);
     sheet.checked = check(&sheet, AT_END);
     must(same(check(&sheet, AT_START), sheet.checked), "the same check twice", sheet.checked);
     sheet.widest = run(&sheet, AT_END, WIDEST, UINT64_MAX, transcript);

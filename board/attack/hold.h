@@ -14,8 +14,9 @@ struct widest {
 enum { WIDEST = 65536 };
 
 /* Makes the calls on a sheet and ends the program by abort where one of them
- * does not hold. With sweep not 0, a transcript of at most so many bytes gets
- * every length and every limit up to one past what is needed. */
+ * does not hold, or where the judge that is linked differs. With sweep not 0, a
+ * transcript of at most so many bytes gets every length and every limit up to one
+ * past what is needed. */
 struct widest hold(const uint8_t *text, size_t length, size_t sweep);
 
 /* The calls made so far. */

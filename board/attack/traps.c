@@ -5,7 +5,6 @@
  * not noted again: libFuzzer learns which sheet reached a block first. */
 #define _GNU_SOURCE
 #include "traps.h"
-#include "../mallardtray.h"
 
 #include <inttypes.h>
 #include <signal.h>
@@ -63,7 +62,7 @@ static void say(void)
     FILE *file = name ? fopen(name, "w") : NULL;
     for (size_t place = 0; file && place < count; place++)
         if (*blocks[place].start == TRAP)
-            fprintf(file, "%td\n", blocks[place].start - (uint8_t *)(uintptr_t)&mallardtray_check);
+            fprintf(file, "%td\n", blocks[place].start - (uint8_t *)(uintptr_t)&traps_set);
     if (file)
         fclose(file);
     fprintf(stderr, "blocks_reached %zu of %zu\n", found, count);
@@ -75,8 +74,8 @@ static void read_blocks(const char *name)
     intptr_t distance;
     if (!file)
         fail("the list of blocks cannot be read");
-    while (count < MOST && fscanf(file, "%" SCNdPTR, &distance) == 1)
-        blocks[count++].start = (uint8_t *)((intptr_t)&mallardtray_check + distance);
+    while (count < MOST && fscanf(file, "%" SCNdPTR "%*[^\n]", &distance) == 1)
+        blocks[count++].start = (uint8_t *)((intptr_t)&traps_set + distance);
     fclose(file);
     if (count == 0 || count == MOST)
         fail("no block, or too many");

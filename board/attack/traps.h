@@ -3,7 +3,7 @@
 #define TRAPS_H
 
 /* Sets a trap at each block that the file names, one on a line, by its distance
- * from mallardtray_check in decimal. */
+ * from this function in decimal. What follows on the line is not read. */
 void traps_set(const char *file);
 
 #endif
