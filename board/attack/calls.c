@@ -2,6 +2,7 @@
  * says how many they were. */
 #define _POSIX_C_SOURCE 200809L
 #include "hold.h"
+#include "judge.h"
 
 #include <inttypes.h>
 #include <signal.h>
@@ -39,6 +40,8 @@ static void say(int sheets)
     for (int number = 0; number < 10; number++)
         printf(" %" PRIu64, hold_given[number]);
     printf("\n");
+    if (judge_compared() > 0)
+        printf("answers_compared %" PRIu64 "\n", judge_compared());
 }
 
 int main(int argc, char **argv)
