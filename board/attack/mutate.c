@@ -110,16 +110,23 @@ size_t LLVMFuzzerCustomMutator(uint8_t *data, size_t size, size_t most, unsigned
     if (below(12) == 0)
         return LLVMFuzzerMutate(data, size, most);
     size_t start = line_start(data, size), end = line_end(data, size, start), length = end - start;
-    switch (below(6)) {
-    case 0: return put(data, size, most, start, end, "", 0);
-    case 1: return put(data, size, most, start, end, text, line(text, sizeof text));
+    switch (below(12)) {
+    case 0:
+    case 1: return put(data, size, most, start, end, "", 0);
     case 2:
+    case 3: return put(data, size, most, start, end, text, line(text, sizeof text));
+    case 4:
+    case 5:
         /* A line of the sheet once more, at another place. */
         if (length == 0 || length > sizeof text)
             return size;
         memcpy(text, data + start, length);
         start = line_place(data, size, text[0]);
         return put(data, size, most, start, start, text, length);
+    case 6:
+        /* A line that ends too soon. */
+        start += below((uint32_t)length);
+        return put(data, size, most, start, end > start ? end - 1 : end, "", 0);
     default:
         length = line(text, sizeof text);
         start = line_place(data, size, text[0]);
