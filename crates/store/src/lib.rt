@@ -1,6 +1,6 @@
 // What the state machine writes as it works: the effects that an event gives rise to, in order, and the status of each
 // component. `emit` and `clear_retries` change what they are lent, as in the source. Whoever works by value calls
-// `emitted` and `cleared`, which lend a value of their own.
+// `emitted` and `cleared`.
 ghost use mathlib.Core.Path.{_≡_};
 ghost use mathlib.Core.List.{map};
 ghost use Rattle.store.specs.Sink.{emptySink, withEffect, effectAt};
@@ -73,12 +73,17 @@ pub fn appended(effects: [Slot; 512], len: usize, effect: Effect) -> Sink
     }
 }
 
-// Lends a sink of its own to `emit`.
+// By value: the effect is stored in place, where lending the sink to `emit` would copy all its slots again.
 pub fn emitted(sink: Sink, effect: Effect) -> Sink
     ensures { λ r. ⌜ r ≡ withEffect sink effect ⌝ }
 {
     let mut s = sink;
-    s.emit(effect);
+    let end = s.len;
+    if end < 512 {
+        s.effects[end] = Slot { effect: effect };
+        s.len = end + 1;
+        return s;
+    }
     s
 }
 
