@@ -15,7 +15,7 @@ use Rattle.reader.specs.declared.Part.{Part}
 use Rattle.reader.specs.declared.Part.the-variants.{Opening}
 use Rattle.reader.specs.declared.Next.{Next}
 use Rattle.reader.specs.declared.Sheet.{Sheet}
-use Rattle.reader.specs.Read.{rowsIn, partAfter, isWrong, isOpening, badFrom, badLine, goodFrom, goodIn, retryAfter, retryFrom, retryIn, cardBefore, cardsOf, cardsIn, pushedAll, Reads, Whole}
+use Rattle.reader.specs.Read.{rowsIn, partAfter, isWrong, isOpening, badFrom, badLine, goodFrom, goodIn, retryAfter, retryFrom, retryIn, isCard, cardBefore, cardsOf, cardsIn, pushedAll, Reads, Whole}
 use Rattle.reader.proofs.Rows.{rows-past}
 
 -- Row by row.
@@ -31,6 +31,15 @@ pub bad-next : (part : Part) (n : ℕ) (r : Row) (rs : List Row)
     → badFrom part n (r ∷ rs) ≡ pick (isWrong (partAfter part r)) n (badFrom (partAfter part r) (suc n) rs)
 unfolding badFrom
 bad-next part n r rs = refl
+
+-- A line that is no C line leaves the list alone.
+pub no-card : (l : ComponentList) (r : Row) → isCard r ≡ false → l ≡ pushedAll l (cardBefore r [])
+unfolding pushedAll
+no-card l (Retry n) h = refl
+no-card l (Card c) h = let z : _≡_ {A = ℕ} 0 1 = cc in absurd (omega arith)
+no-card l (Begin e) h = refl
+no-card l (Answer a) h = refl
+no-card l Bad h = refl
 
 pub bad-end : (part : Part) (n : ℕ) → badFrom part n [] ≡ pick (isOpening part) n 0
 unfolding badFrom

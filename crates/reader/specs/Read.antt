@@ -102,6 +102,13 @@ unfoldable pub retryIn : List ℕ → ℕ
 retryIn s = retryFrom 0 (rowsIn s)
 
 -- The components of the C lines.
+abbrev pub isCard : Row → Bool
+isCard (Retry n) = false
+isCard (Card c) = true
+isCard (Begin e) = false
+isCard (Answer a) = false
+isCard Bad = false
+
 abbrev pub cardBefore : Row → List Component → List Component
 cardBefore (Retry n) cs = cs
 cardBefore (Card c) cs = c ∷ cs

@@ -3,7 +3,7 @@ ghost use mathlib.Core.Path.{_≡_};
 ghost use Prim.Native.Nat.{_<_};
 ghost use lib.ListN.{length};
 ghost use Rattle.components.specs.Chain.{pushed};
-ghost use Rattle.reader.specs.Read.{partAfter, isWrong, isOpening, retryAfter, cardBefore, pushedAll, Reads, Whole};
+ghost use Rattle.reader.specs.Read.{partAfter, isWrong, isOpening, retryAfter, isCard, cardBefore, pushedAll, Reads, Whole};
 ghost use mathlib.Core.List.{[]};
 use components::ComponentList;
 use lines::Row;
@@ -111,6 +111,18 @@ fn retry_after(max_retry: u8, row: Row) -> u8
     }
 }
 
+fn is_card(row: Row) -> bool
+    ensures { λ r. ⌜ r ≡ isCard row ⌝ }
+{
+    match row {
+        Row::Retry(_) => false,
+        Row::Card(_) => true,
+        Row::Begin(_) => false,
+        Row::Answer(_) => false,
+        Row::Bad => false,
+    }
+}
+
 fn list_after(list: ComponentList, row: Row) -> ComponentList
     ensures { λ r. ⌜ r ≡ pushedAll list (cardBefore row []) ⌝ }
 {
@@ -123,7 +135,7 @@ fn list_after(list: ComponentList, row: Row) -> ComponentList
     }
 }
 
-// Question 1 is put to every line, and the B and C lines are kept.
+// Question 1 is put to every line, and the B and C lines are kept. Other lines leave the list alone, which is long to copy.
 pub fn read_sheet(sheet: &[u8]) -> Sheet
     ensures { λ r. ⌜ Whole (now (sheet .entry)) r ⌝ }
 {
@@ -144,7 +156,9 @@ pub fn read_sheet(sheet: &[u8]) -> Sheet
             };
         }
         max_retry = retry_after(max_retry, row);
-        list = list_after(list, row);
+        if is_card(row) {
+            list = list_after(list, row);
+        }
         at = next.after;
         line = line + 1;
     }

@@ -1,12 +1,13 @@
 -- `read_sheet` meets its contract: what stands from `at` on gives the whole answer, with what the lines before it told. There
 -- are no more lines than bytes.
 use mathlib.Core.Path.{sym, _∙_, subst}
+use mathlib.Core.Logic.{⊎-elim}
 use Prim.Native.Nat.{_+_, _-_, _<_, _≤_}
 use native.Mathlib.Omega.{arith}
 use lib.ListN.{length}
 use Rattle.components.specs.declared.ComponentList.{ComponentList}
 use Rattle.reader.specs.declared.Part.the-variants.{Opening}
-use Rattle.reader.proofs.Left.{Left, left-all, left-wrong, left-next, left-opening, left-end}
+use Rattle.reader.proofs.Left.{Left, no-card, left-all, left-wrong, left-next, left-opening, left-end}
 use borrow.Author.Needs.{needs}
 use Rattle.reader.proofs.read_sheet.Statement.{statement}
 use Rattle.reader.proofs.read_sheet.Tie as tie
@@ -44,35 +45,40 @@ returns c =
 retry-after-requires : tie.Need-retry-after-requires Inv-loop μ-loop
 retry-after-requires c κs = search needs
 
+is-card-requires : tie.Need-is-card-requires Inv-loop μ-loop
+is-card-requires c κs = search needs
+
 list-after-requires : tie.Need-list-after-requires Inv-loop μ-loop
 list-after-requires c κs = search needs
 
 add-line : tie.Need-add-line Inv-loop μ-loop
 add-line c =
-    let reads = c .before .before .before .before .before .next-line .ensures in
+    let reads = c .before .before .before .before .before .before .next-line .ensures in
     let on = reads .onward in
     let within = reads .within in
     omega arith
 
 loop-less : tie.Need-loop-less Inv-loop μ-loop
 loop-less c =
-    let reads = c .before .before .before .before .before .next-line .ensures in
+    let reads = c .before .before .before .before .before .before .next-line .ensures in
     let on = reads .onward in
     let within = reads .within in
     omega arith
 
 loop-again : tie.Need-loop-again Inv-loop μ-loop
 loop-again c =
-    let line = c .before .before .before .before .before in
+    let line = c .before .before .before .before .before .before in
     let known = line .before .before .loop in
     let reads = line .next-line .ensures in
     let on = reads .onward in
-    let within = reads .within in (
+    let within = reads .within in
+    let card = c .before .is-card in (
       within,
       omega arith,
       omega arith,
-      left-next _ _ _ _ _ _ (known .inv .3) _ reads _ (c .before .before .before .before .part-after .ensures)
-          (sym (c .before .before .before .is-wrong .ensures) ∙ c .before .before .if1 .left) _ (c .before .retry-after .ensures) _ (c .list-after .ensures),
+      left-next _ _ _ _ _ _ (known .inv .3) _ reads _ (c .before .before .before .before .before .part-after .ensures)
+          (sym (c .before .before .before .before .is-wrong .ensures) ∙ c .before .before .before .if1 .left) _ (c .before .before .retry-after .ensures) _
+          (⊎-elim (λ w. w .2 ∙ w .1 .ensures) (λ w. w .1 ∙ no-card (known .list) (line .next-line .result .row) (sym (card .ensures) ∙ w .0 .left)) (c .if2 .came)),
     )
 
 is-opening-requires : tie.Need-is-opening-requires Inv-loop μ-loop
@@ -81,12 +87,12 @@ is-opening-requires c κs = search needs
 returns-2 : tie.Need-returns-2 Inv-loop μ-loop
 returns-2 c =
     let known = c .before .before .before .loop in
-    left-opening _ _ _ _ _ _ (known .inv .3) (c .before .before .loop-test .left) (sym (c .before .is-opening .ensures) ∙ c .if2 .taken)
+    left-opening _ _ _ _ _ _ (known .inv .3) (c .before .before .loop-test .left) (sym (c .before .is-opening .ensures) ∙ c .if3 .taken)
 
 returns-3 : tie.Need-returns-3 Inv-loop μ-loop
 returns-3 c =
     let known = c .before .before .before .loop in
-    left-end _ _ _ _ _ _ (known .inv .3) (c .before .before .loop-test .left) (sym (c .before .is-opening .ensures) ∙ c .if2 .left)
+    left-end _ _ _ _ _ _ (known .inv .3) (c .before .before .loop-test .left) (sym (c .before .is-opening .ensures) ∙ c .if3 .left)
 
 pub read-sheet-spec : {M : Type 1} → statement M
 read-sheet-spec =
@@ -101,6 +107,7 @@ read-sheet-spec =
     is-wrong-requires
     returns
     retry-after-requires
+    is-card-requires
     list-after-requires
     add-line
     loop-less
