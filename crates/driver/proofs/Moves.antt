@@ -44,7 +44,7 @@ use Rattle.driver.specs.Run.{Entry, Settled·in, Told, entryLine, transc
 use Rattle.driver.specs.declared.Stage.{Stage}
 use Rattle.driver.specs.declared.Stage.the-variants.{Waits, HandsOut, Takes, Rests}
 use Rattle.driver.specs.Seen.{seen}
-use Rattle.driver.specs.Plans.{passes, stops, answers, answersBy, hands, takes, finishes, tellsNext, readsBy, acts, handingAt, takingAt, takingNow, turnAt, actAt, Stands, Due, Planned}
+use Rattle.driver.specs.Plans.{passes, stops, answers, answersBy, hands, takes, finishes, tellsNext, readsBy, acts, takingAt, takingNow, turnAt, actAt, Stands, Due, Planned}
 
 -- One line is a transcript.
 pub transcript-one : (e : Entry) → transcript (e ∷ []) ≡ entryLine e
@@ -116,6 +116,12 @@ wait-turn ch max x Nothing [] (e ∷ q) h = never (ap awaiting h)
 wait-turn ch max x Nothing [] [] h = never (ap awaiting h)
 
 -- Where an effect is handed out none waits; where an event is taken nothing is left either, and there is an event.
+abbrev pub handingAt : Stage → Bool
+handingAt Waits = false
+handingAt HandsOut = true
+handingAt Takes = false
+handingAt Rests = false
+
 hands-idle : (w : Waiting) (es : List Effect) (q : List Event) → stageBy w es q ≡ HandsOut → w ≡ Nothing
 hands-idle (Handed y) es q h = never (ap handingAt h)
 hands-idle Nothing es q h = refl

@@ -96,13 +96,6 @@ acts ch max (Queue e) x = enqueue e x
 acts ch max (Give a) x = replied a (waitingIs Nothing x)
 acts ch max Turn x = turnOf ch max x
 
--- An effect is handed out.
-abbrev pub handingAt : Stage → Bool
-handingAt Waits = false
-handingAt HandsOut = true
-handingAt Takes = false
-handingAt Rests = false
-
 -- An event is taken.
 abbrev pub takingAt : Stage → Bool
 takingAt Waits = false

@@ -16,7 +16,7 @@ ghost use Rattle.settling.specs.View.{Short, Whole};
 ghost use Rattle.settling.specs.Parts.{Moves};
 ghost use Rattle.driver.specs.Run.{Setting, Point, silent, answering, handed, reading, stepBy, transcript};
 ghost use Rattle.driver.specs.Seen.{runOn, Ran};
-ghost use Rattle.driver.specs.Plans.{atStart, stays, stops, passes, answers, answersBy, begins, readsBy, tellsNext, takes, finishes, handingAt, takingAt, takingNow, turnAt, actAt, tellingNow, spoken, wrote, Stands, Due, Planned};
+ghost use Rattle.driver.specs.Plans.{atStart, stays, stops, passes, answers, answersBy, begins, readsBy, tellsNext, takes, finishes, takingAt, takingNow, turnAt, actAt, tellingNow, spoken, wrote, Stands, Due, Planned};
 use chain::Chain;
 use lines::Row;
 use machine::Rot;
@@ -292,18 +292,6 @@ fn next_step(sheet: &[u8], limit: u64, n: usize, stage: Stage, c: Cursor) -> Pla
     }
 }
 
-// Does a turn at this stage hand out the next effect?
-fn hands_out(stage: Stage) -> bool
-    ensures { λ r. ⌜ r ≡ handingAt stage ⌝ }
-{
-    match stage {
-        Stage::Waits => false,
-        Stage::HandsOut => true,
-        Stage::Takes => false,
-        Stage::Rests => false,
-    }
-}
-
 // Does a turn at this stage take an event?
 fn is_taking(stage: Stage) -> bool
     ensures { λ r. ⌜ r ≡ takingAt stage ⌝ }
@@ -445,7 +433,8 @@ fn record_line(c: Cursor, room: Room) -> Cursor
     }
 }
 
-// The run of a sheet on a machine that `new` made for it, into a lent buffer.
+// The run of a sheet on a machine that `new` made for it, into a lent buffer. The machine is taken apart, since its parts are
+// stored to one by one, and an effect is read where it stands only from an array that is a variable's own.
 pub fn drive(sheet: &[u8], out: &mut [u8], limit: u64, machine: Machine) -> End
     requires { ⌜ Whole machine ⌝ }
     ensures { λ r. ⌜ Ran (now (out .entry)) (runOn (now (sheet .entry)) (length (now (out .entry))) limit machine) r (now (out .exit)) ⌝ }
@@ -455,39 +444,38 @@ pub fn drive(sheet: &[u8], out: &mut [u8], limit: u64, machine: Machine) -> End
     let none = Slot {
         effect: Effect::LatchLockdown,
     };
-    let mut m = machine;
+    let work = machine.work;
+    let mut state = work.state;
+    let mut rot = work.rot;
+    let mut batch = work.sink;
+    let mut d = machine.dispatch;
     let mut c = start();
     while c.going {
-        let d = m.dispatch;
-        let len = m.work.sink.len;
-        let work = m.work;
-        let state = work.state;
-        let stage = due(d, len);
+        let stage = due(d, batch.len);
         let step = next_step(sheet, limit, n, stage, c);
         let act = step.act;
         let say = step.say;
+        let i = d.next;
         let mut slot = none;
-        if hands_out(stage) {
-            let sink = m.work.sink;
-            slot = Slot {
-                effect: sink.get(d.next),
-            };
+        if i < 512 {
+            slot = batch.effects[i];
         }
         let effect = slot.effect;
-        let mut after = acted(d, len, effect, act, stage);
+        let before = state;
+        let mut after = acted(d, batch.len, effect, act, stage);
         if takes(act, stage) {
-            let rot = m.work.rot;
             let pending = d.pending;
             let event = front_event(pending);
-            let stepped = rot::step(m.chain, m.max_retry, state, rot, event);
-            m.work = stepped;
+            let stepped = rot::step(chain, machine.max_retry, state, rot, event);
+            state = stepped.state;
+            rot = stepped.rot;
+            batch = stepped.sink;
             after = settling::taken(d);
         }
-        m.dispatch = after;
-        let waiting = after.waiting;
-        let mut line = said_line(say, state, waiting);
+        d = after;
+        let waiting = d.waiting;
+        let mut line = said_line(say, before, waiting);
         if tells(say) {
-            let rot = m.work.rot;
             line = told_line(chain, rot, n, c.told);
         }
         let next = step.cursor;
