@@ -59,9 +59,8 @@ const NAMED: [&str; 40] = [
     "handed_past_place_256",
 ];
 
-/// No history reaches these; docs/TESTING.md says why. A history that does is
-/// a failure of the comparison.
-const NEVER: [&str; 10] = [
+/// What follows a failure that did not lock the machine.
+const AFTER_A_FAILURE: [&str; 7] = [
     "reply_lost_after_a_failure",
     "emit_lost_after_a_failure",
     "handed_after_a_loss",
@@ -69,6 +68,11 @@ const NEVER: [&str; 10] = [
     "third_failure",
     "later_failure_not_locked",
     "first_failure_after_a_survived_one",
+];
+
+/// No history reaches these, nor what follows such a failure; docs/TESTING.md
+/// says why. A history that does is a failure of the comparison.
+const NEVER: [&str; 3] = [
     SETTLED_OVER_8,
     READY_BY_COMPONENT_READY,
     WALK_AT_AN_ISOLATED_ONE,
@@ -80,27 +84,21 @@ const READY_BY_COMPONENT_READY: &str = "component_ready_gives_ready";
 const WALK_AT_AN_ISOLATED_ONE: &str = "walk_at_an_isolated_one";
 const RETRY_STOPS: &str = "retry_stops_at_255";
 
-/// Reached from set-up machines and planted queues.
-const SET_UP: [&str; 13] = [
+/// Reached from set-up machines and planted queues, beside what follows such a
+/// failure.
+const SET_UP: [&str; 6] = [
     READY_BY_COMPONENT_READY,
     WALK_AT_AN_ISOLATED_ONE,
     RETRY_STOPS,
     "planted",
     "planted_in_vain",
-    "reply_lost_after_a_failure",
-    "emit_lost_after_a_failure",
-    "handed_after_a_loss",
-    "second_failure_with_effects_left",
-    "third_failure",
-    "later_failure_not_locked",
-    "first_failure_after_a_survived_one",
     "kept_beside_one_put_out",
 ];
 
 /// Whether a corner is noted of a machine that was set up: one that it has to
 /// reach, or the one that it must not reach either.
 pub fn is_noted_of_set_up(name: &str) -> bool {
-    SET_UP.contains(&name) || name == SETTLED_OVER_8
+    SET_UP.contains(&name) || AFTER_A_FAILURE.contains(&name) || name == SETTLED_OVER_8
 }
 
 pub fn set_up(name: &str) -> String {
@@ -109,7 +107,11 @@ pub fn set_up(name: &str) -> String {
 
 /// The corners that set-up machines have to reach.
 pub fn set_up_names() -> Vec<String> {
-    SET_UP.map(set_up).to_vec()
+    SET_UP
+        .into_iter()
+        .chain(AFTER_A_FAILURE)
+        .map(set_up)
+        .collect()
 }
 
 /// The corners that histories have to reach.
@@ -146,6 +148,7 @@ pub fn rare_names() -> Vec<String> {
 pub fn never_names() -> Vec<String> {
     let rows = UNREACHED.iter().flat_map(|(_, rows)| rows.iter());
     let mut names = vec![set_up(SETTLED_OVER_8)];
+    names.extend(AFTER_A_FAILURE.map(String::from));
     names.extend(NEVER.map(String::from));
     names.extend(rows.map(|name| row(name)));
     names

@@ -148,14 +148,20 @@ fn after(writer: &mut Writer) {
     }
 }
 
-/// A cascade whose replies fill the queue, and what follows.
-fn cascade_flood(random: &mut SplitMix64) -> History {
+/// A history up to the first effect of a cascade.
+fn in_a_cascade(random: &mut SplitMix64) -> Writer<'_> {
     let entries = beside_a_cascade(random);
     let root = entries[1].0;
     let max_retry = draw_max_retry(random);
     let mut writer = Writer::new(random, entries, max_retry);
     writer.power_good();
     writer.begin(Event::CorruptionDetected(root));
+    writer
+}
+
+/// A cascade whose replies fill the queue, and what follows.
+fn cascade_flood(random: &mut SplitMix64) -> History {
+    let mut writer = in_a_cascade(random);
     for _ in 0..QUEUE {
         let event = writer.any_event();
         writer.reply(Reply::Then(event));
@@ -168,12 +174,7 @@ fn cascade_flood(random: &mut SplitMix64) -> History {
 /// A cascade whose replies queue a few events, which one call then settles: in
 /// Locked after a failure, or because the state has no rule for them.
 fn drained(random: &mut SplitMix64) -> History {
-    let entries = beside_a_cascade(random);
-    let root = entries[1].0;
-    let max_retry = draw_max_retry(random);
-    let mut writer = Writer::new(random, entries, max_retry);
-    writer.power_good();
-    writer.begin(Event::CorruptionDetected(root));
+    let mut writer = in_a_cascade(random);
     let fails = writer.random.one_in(2);
     // The numbers that other scenes seldom reach come more often.
     for _ in 0..writer.random.pick(&[3, 4, 4, 5, 5, 5, 6, 6, 6, 7, QUEUE]) {
