@@ -181,7 +181,7 @@ impl<'a> Writer<'a> {
     }
 
     fn draw_reply(&mut self, effect: Effect, mood: Mood) -> Reply {
-        // After a failure nothing but LatchLockdown can fail.
+        // After a failure that is not planted nothing but LatchLockdown can fail.
         if effect == Effect::LatchLockdown && self.random.one_in(2) {
             return Reply::Failed;
         }
