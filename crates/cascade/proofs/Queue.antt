@@ -1,4 +1,5 @@
--- A queue makes the cascade: at any moment it holds the rest of one level and the start of the next, and these with all that is still to come behind them give the whole.
+-- A queue makes the cascade: at any moment it holds the rest of one level and the start of the next, and these with all that is
+-- still to come behind them give the whole.
 use mathlib.Core.Path.{_≡_, refl, sym, _∙_, ap, subst}
 use mathlib.Core.List.{List, [], _∷_, _++_, append-assoc, append-nil, List·Memᴰ, List·Memᴰ·head, Memᴰ·append-left, Memᴰ·append-right}
 use Prim.Native.Nat.{ℕ, zero, suc, _≤_, _<_}

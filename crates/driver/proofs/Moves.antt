@@ -39,12 +39,17 @@ use Rattle.reader.proofs.Rows.{rows-past}
 use Rattle.driver.specs.declared.Cursor.{Cursor}
 use Rattle.driver.specs.declared.Act.{Act}
 use Rattle.driver.specs.declared.Act.the-variants.{Stay, Rest, Queue, Give, Turn}
+use Rattle.driver.specs.declared.Say.the-variants.{EffectLine}
 use Rattle.driver.specs.declared.Plan.{Plan}
 use Rattle.driver.specs.Run.{Entry, Settled·in, Told, entryLine, transcript, Setting, Point, Step, silent, settledIs, toldIs, stopped, answering, turned, handing, taking, finishing, telling, reading, stageBy, stageOf, stepBy, stepFrom}
 use Rattle.driver.specs.declared.Stage.{Stage}
 use Rattle.driver.specs.declared.Stage.the-variants.{Waits, HandsOut, Takes, Rests}
 use Rattle.driver.specs.Seen.{seen}
-use Rattle.driver.specs.Plans.{passes, stops, answers, answersBy, hands, takes, finishes, tellsNext, readsBy, acts, takingAt, takingNow, turnAt, actAt, Stands, Due, Planned}
+use Rattle.driver.specs.Plans.{passes, stops, answers, answersBy, takes, finishes, tellsNext, readsBy, acts, takingAt, takingNow, turnAt, actAt, Stands, Due, Planned}
+
+-- The next effect is handed out.
+abbrev hands : Cursor → Plan
+hands c = record { cursor = c; act = Turn; say = EffectLine }
 
 -- One line is a transcript.
 pub transcript-one : (e : Entry) → transcript (e ∷ []) ≡ entryLine e

@@ -65,9 +65,6 @@ answersBy c after (Begin e) = answers Done c
 answersBy c after (Answer a) = answers a (passes after c)
 answersBy c after Bad = answers Done c
 
-abbrev pub hands : Cursor → Plan
-hands c = record { cursor = c; act = Turn; say = EffectLine }
-
 abbrev pub takes : Cursor → Plan
 takes c = record { cursor = record { at = c .at; line = c .line; work = c .work; settled = c .settled + 1; told = c .told; going = c .going; number = c .number; place = c .place; written = c .written }; act = Turn; say = Silence }
 
@@ -110,7 +107,7 @@ takingNow (Queue e) g = false
 takingNow (Give a) g = false
 takingNow Turn g = takingAt g
 
--- The same by the stage, where no event is taken: x is the next effect of the batch, before es.
+-- What an act does, by the stage, where no event is taken: x is the next effect of the batch, before es.
 abbrev pub turnAt : Effect → List Effect → Stage → Model → Model
 turnAt x es Waits y = y
 turnAt x es HandsOut y = handOut x es y (emits x)

@@ -125,7 +125,7 @@ pub fn is_gated(rot: Rot, n: usize, p: usize) -> bool
     }
 }
 
-// One effect more at the end. A field that holds a struct is not stored to: here and below the whole is built anew.
+// One effect more at the end. Here and below the whole is built anew.
 pub fn say(w: Work, effect: Effect) -> Work
     ensures { λ r. ⌜ r ≡ sinkIs (withEffect (w .sink) effect) w ⌝ }
 {

@@ -101,7 +101,7 @@ retryFrom n (r ∷ rs) = retryFrom (retryAfter n r) rs
 unfoldable pub retryIn : List ℕ → ℕ
 retryIn s = retryFrom 0 (rowsIn s)
 
--- The components of the C lines.
+-- A C line.
 abbrev pub isCard : Row → Bool
 isCard (Retry n) = false
 isCard (Card c) = true
@@ -109,6 +109,7 @@ isCard (Begin e) = false
 isCard (Answer a) = false
 isCard Bad = false
 
+-- The components of the C lines.
 abbrev pub cardBefore : Row → List Component → List Component
 cardBefore (Retry n) cs = cs
 cardBefore (Card c) cs = c ∷ cs

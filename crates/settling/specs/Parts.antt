@@ -15,7 +15,7 @@ use Rattle.settling.specs.View.{view, chainOf, within, Short}
 abbrev pub waits : Waiting → Dispatch → Dispatch
 waits w d = record { next = d .next; waiting = w; pending = d .pending; failed = d .failed }
 
--- With any batch es of at most len effects, d changed by f is r.
+-- With any batch es of at most len effects, d changed by f is r; and r has at most 8 events queued.
 pub record Moves (len : ℕ) (f : List Effect → Model → Model) (d r : Dispatch) : Type 0 where
   pub machine : (c : Core) (es : List Effect) → length es ≤ len → within c es r ≡ f es (within c es d)
   pub few : Short r

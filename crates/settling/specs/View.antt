@@ -31,11 +31,12 @@ view m = within (coreOf (size (m .chain)) (bare (m .work .state) (m .work .rot))
 abbrev pub chainOf : Machine → List Component
 chainOf m = entries (m .chain)
 
--- Within and between calls: an accepted chain with its own tables, nothing isolated past it, the cursor within it or at its end, at
--- most 512 effects and 8 events.
+-- At most 8 events are queued.
 abbrev pub Short : Dispatch → Type 0
 Short d = length (events (d .pending)) ≤ 8
 
+-- Within and between calls: an accepted chain with its own tables, nothing isolated past it, the cursor within it or at its
+-- end, at most 512 effects and 8 events.
 pub record Whole (m : Machine) : Type 0 where
   pub sane : Sane (m .chain) (bare (m .work .state) (m .work .rot))
   pub room : m .work .sink .len ≤ 512

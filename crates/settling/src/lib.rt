@@ -37,8 +37,8 @@ pub struct Dispatch {
     pub failed: bool,
 }
 
-// The effects of the batch are those in the sink of the work. What a dispatch keeps is a part by itself, so that a turn that
-// settles no event stores some bytes and copies no machine.
+// The effects of the batch are those in the sink of the work. What a dispatch keeps is a part by itself, so that what settles
+// no event need take and give this part alone.
 pub struct Machine {
     pub chain: Chain,
     pub max_retry: u8,

@@ -21,7 +21,7 @@ use Rattle.sm.specs.declared.Made.{Made}
 use Rattle.sm.specs.declared.Called.{Called}
 use Rattle.sm.specs.Calls.{Expected, startOf}
 
--- The machine that a refused list gets: no component, locked.
+-- No component.
 abbrev pub noChain : Chain
 noChain = record { list = noEntries; positions = replicate 256 0; parents = replicate 255 0 }
 
@@ -33,6 +33,7 @@ untouched s = record { state = s; rot = newRot; sink = emptySink }
 abbrev pub idle : Dispatch
 idle = record { next = 0; waiting = Nothing; pending = noEvents; failed = false }
 
+-- The machine that a refused list gets: no component, locked.
 unfoldable pub blank : Machine
 blank = record { chain = noChain; «max_retry» = 0; work = untouched Locked; dispatch = idle }
 

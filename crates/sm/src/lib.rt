@@ -127,21 +127,8 @@ fn is_done(m: Machine) -> bool
     }
 }
 
-// A call that was not refused.
-fn answered(m: Machine) -> Called
-    ensures { λ r. ⌜ r ≡ reported m 0 ⌝ }
-{
-    let d = m.dispatch;
-    let waiting = d.waiting;
-    Called {
-        machine: m,
-        number: 0,
-        effect: waiting,
-    }
-}
-
-// A refused call: the machine is the one that was passed, and its effect still waits.
-fn refused(m: Machine, number: u64) -> Called
+// What a call answers: the number, and the effect that waits now.
+fn report(m: Machine, number: u64) -> Called
     ensures { λ r. ⌜ r ≡ reported m number ⌝ }
 {
     let d = m.dispatch;
@@ -163,9 +150,9 @@ pub fn begin(machine: Machine, event: Event) -> Called
         let begun = settling::enqueue(d, machine.work.sink.len, event);
         let mut v = machine;
         v.dispatch = begun;
-        return answered(settling::settle(v));
+        return report(settling::settle(v), 0);
     }
-    refused(machine, 10)
+    report(machine, 10)
 }
 
 // Answers the effect that waits, and settles up to the next effect or the end.
@@ -176,12 +163,12 @@ pub fn reply(machine: Machine, reply: Reply) -> Called
     let d = machine.dispatch;
     let waiting = d.waiting;
     match waiting {
-        Waiting::Nothing => refused(machine, 7),
+        Waiting::Nothing => report(machine, 7),
         Waiting::Handed(_) => {
             let after = settling::replied(d, machine.work.sink.len, reply);
             let mut v = machine;
             v.dispatch = after;
-            answered(settling::settle(v))
+            report(settling::settle(v), 0)
         }
     }
 }

@@ -1,4 +1,5 @@
--- `cascade_order` meets its contract: the order is at any moment a queue on its way to the cascade, which is no longer than the chain, so that the array has room for all of it.
+-- `cascade_order` meets its contract: the order is at any moment a queue on its way to the cascade, which is no
+-- longer than the chain, so that the array has room for all of it.
 use mathlib.Core.Path.{_≡_, refl, _∙_, ap}
 use mathlib.Core.List.{[], _++_}
 use Prim.Native.Nat.{ℕ, suc, _+_, _-_, _≤_, _<_}

@@ -1,4 +1,5 @@
--- `with_dependents` meets its contract: up to position p the order has grown by the dependents below p, of which none stands up to the holder.
+-- `with_dependents` meets its contract: up to position p the order has grown by the dependents below p, of which none
+-- stands up to the holder.
 use mathlib.Core.Path.{_≡_, sym}
 use mathlib.Core.Logic.{⊎-elim}
 use mathlib.Core.List.{_++_}

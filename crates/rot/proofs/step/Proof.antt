@@ -1,4 +1,5 @@
--- `step` meets its contract: the table of numbers is the table of rules, for whomever the event is about, and at most 2N+1 effects fit into an empty sink, so that it holds them all.
+-- `step` meets its contract: the table of numbers is the table of rules, for whomever the event is about, and at
+-- most 2N+1 effects fit into an empty sink, so that it holds them all.
 use mathlib.Core.Path.{_≡_, ap, _∙_}
 use Prim.Native.Nat.{_≤_, _<_}
 use mathlib.Core.List.{List, _++_}

@@ -25,8 +25,8 @@ settle-requires c κs =
     let d = sym (c .before .before .before .is-done .ensures) ∙ c .before .before .if1 .taken in
     begun m (s .pre) (s .args .event) d (c .enqueue .result) (c .enqueue .ensures) .whole
 
-answered-requires : tie.Need-answered-requires
-answered-requires c κs = search needs
+report-requires : tie.Need-report-requires
+report-requires c κs = search needs
 
 returns : tie.Need-returns
 returns c =
@@ -35,18 +35,18 @@ returns c =
     let e = s .args .event in
     let d = sym (c .before .before .before .before .before .is-done .ensures) ∙ c .before .before .before .before .if1 .taken in
     let q = c .before .before .enqueue in
-    subst (λ (x : Expected). CallGives m x (c .answered .result)) (sym (begin-done m (s .pre) e d))
-    (settles m (puts (q .result) m) (c .before .settle .result) (queueIs (e ∷ []) (view m)) (c .answered .result) (begun m (s .pre) e d (q .result) (q .ensures)) (view-waiting m ∙ begun-idle m (s .pre) e d) (omega arith) (c .before .settle .ensures) (c .answered .ensures))
+    subst (λ (x : Expected). CallGives m x (c .report .result)) (sym (begin-done m (s .pre) e d))
+    (settles m (puts (q .result) m) (c .before .settle .result) (queueIs (e ∷ []) (view m)) (c .report .result) (begun m (s .pre) e d (q .result) (q .ensures)) (view-waiting m ∙ begun-idle m (s .pre) e d) (omega arith) (c .before .settle .ensures) (c .report .ensures))
 
-refused-requires : tie.Need-refused-requires
-refused-requires c κs = search needs
+report-requires-2 : tie.Need-report-requires-2
+report-requires-2 c κs = search needs
 
 returns-2 : tie.Need-returns-2
 returns-2 c =
     let s = c .before .before .before in
     let m = s .args .machine in
     let d = sym (c .before .before .is-done .ensures) ∙ c .before .if1 .left in
-    subst (λ (x : Expected). CallGives m x (c .refused .result)) (sym (begin-refused m (s .pre) (s .args .event) d)) (refuses m 10 (c .refused .result) (s .pre) (c .refused .ensures))
+    subst (λ (x : Expected). CallGives m x (c .report2 .result)) (sym (begin-refused m (s .pre) (s .args .event) d)) (refuses m 10 (c .report2 .result) (s .pre) (c .report2 .ensures))
 
 pub begin-spec : {M : Type 1} → statement M
 begin-spec =
@@ -55,7 +55,7 @@ begin-spec =
     is-done-requires
     enqueue-requires
     settle-requires
-    answered-requires
+    report-requires
     returns
-    refused-requires
+    report-requires-2
     returns-2)
