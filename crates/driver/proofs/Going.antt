@@ -26,13 +26,14 @@ use Rattle.machine.specs.View.{statusesOf}
 use Rattle.printed.specs.Transcript.{statusLine}
 use Rattle.settling.proofs.Views.{never}
 use Rattle.driver.specs.declared.Cursor.{Cursor}
+use Rattle.driver.specs.declared.End.{End}
 use Rattle.driver.specs.declared.Plan.{Plan}
 use Rattle.driver.specs.declared.Stage.{Stage}
 use Rattle.driver.specs.declared.Say.{Say}
 use Rattle.driver.specs.declared.Say.the-variants.{Silence, EffectLine, StateLine, StatusLine}
 use Rattle.driver.specs.Run.{Entry, Told, entryLine, transcript, Setting, Point, Step, Progress, stopped, stageOf, stepBy, stepFrom, recorded, steps, toDo, runFrom}
 use Rattle.driver.specs.Seen.{seen, settingOf, Ran}
-use Rattle.driver.specs.Plans.{atStart, acts, tellingNow, spoken, says, Tells, wrote, Stands, planned, Planned}
+use Rattle.driver.specs.Plans.{atStart, endOf, acts, tellingNow, spoken, says, Tells, wrote, Stands, planned, Planned}
 use Rattle.driver.proofs.Moves.{transcript-one, step-by}
 use Rattle.driver.proofs.Less.{step-less}
 
@@ -154,10 +155,11 @@ module _ (s out : List ℕ) (limit : ℕ) (m₀ : Machine) where
     long = ap length (g .buffer) ∙ length-over out (transcript (g .said)) (g .within)
 
     -- The run has ended.
-    pub ends : c .going ≡ false → Ran out whole-run (record { number = c .number; place = c .place; settled = c .settled; written = c .written }) here
+    pub ends : c .going ≡ false → (e : End) → e ≡ endOf c → Ran out whole-run e here
     unfolding seen
-    ends h =
+    ends h e q =
         let x : whole-run ≡ record { point = seen s (view m) c; said = g .said } = g .run ∙ steps-stay setting (length out) (g .left) record { point = seen s (view m) c; said = g .said } h in
+        subst (λ (k : End). Ran out whole-run k here) (sym q)
         record {
           ended = ap (λ (p : Progress). p .point .going) x ∙ h;
           number = ap (λ (p : Progress). p .point .number) (sym x);
@@ -284,8 +286,6 @@ module _ (s out : List ℕ) (limit : ℕ) (m₀ : Machine) where
 
       -- The cursor that comes of it.
       module _ (room : Room) (c₁ : Cursor) (same-cursor : c₁ ≡ wrote next room) where
-        pub goes-on : room ≡ roomAfter here at text → (b : List ℕ) → b ≡ written here at text → Going b v c₁
-        goes-on e b p = subst (Going b v) (sym same-cursor) (goes room e b p)
-
-        pub comes-down : measure s limit m₀ v c₁ < measure s limit m₀ m c
-        comes-down = omega (arith, measure-falls room, ap (measure s limit m₀ v) same-cursor)
+        -- The run goes on with it, and what is left to do falls.
+        pub carries : room ≡ roomAfter here at text → ((b : List ℕ) → b ≡ written here at text → Going b v c₁) × (measure s limit m₀ v c₁ < measure s limit m₀ m c)
+        carries e = (λ b p. subst (Going b v) (sym same-cursor) (goes room e b p), omega (arith, measure-falls room, ap (measure s limit m₀ v) same-cursor))

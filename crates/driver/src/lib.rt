@@ -16,7 +16,7 @@ ghost use Rattle.settling.specs.View.{Short, Whole};
 ghost use Rattle.settling.specs.Parts.{Moves};
 ghost use Rattle.driver.specs.Run.{Setting, Point, silent, answering, handed, reading, stepBy, transcript};
 ghost use Rattle.driver.specs.Seen.{runOn, Ran};
-ghost use Rattle.driver.specs.Plans.{atStart, stays, stops, passes, answers, answersBy, begins, readsBy, tellsNext, takes, finishes, takingAt, takingNow, turnAt, actAt, tellingNow, spoken, wrote, Stands, Due, Planned};
+ghost use Rattle.driver.specs.Plans.{atStart, endOf, stays, stops, passes, answers, answersBy, begins, readsBy, tellsNext, takes, finishes, takingAt, takingNow, turnAt, actBy, tellingNow, spoken, wrote, Stands, Due, Planned};
 use chain::Chain;
 use lines::Row;
 use machine::Rot;
@@ -29,7 +29,6 @@ use settling::Dispatch;
 use settling::Machine;
 use settling::Reply;
 use settling::Waiting;
-use store::Slot;
 use text::Line;
 use text::Room;
 
@@ -90,7 +89,6 @@ pub struct End {
 
 // What a turn would do, with a batch of `len` effects.
 fn due(d: Dispatch, len: usize) -> Stage
-    requires { ⌜ Short d ⌝ }
     ensures { λ r. ⌜ Due len d r ⌝ }
 {
     let waiting = d.waiting;
@@ -333,7 +331,7 @@ fn turned(d: Dispatch, len: usize, effect: Effect, stage: Stage) -> Dispatch
 // The dispatch after an act that takes no event.
 fn acted(d: Dispatch, len: usize, effect: Effect, act: Act, stage: Stage) -> Dispatch
     requires { ⌜ (Short d) × (stage ≡ Stage.HandsOut → d .next < len) ⌝ }
-    ensures { λ r. ⌜ Moves len (λ es. actAt effect (drop (d .next + 1) es) act stage) d r ⌝ }
+    ensures { λ r. ⌜ Moves len (λ es. actBy (turnAt effect (drop (d .next + 1) es) stage) act) d r ⌝ }
 {
     match act {
         Act::Stay => d,
@@ -433,17 +431,28 @@ fn record_line(c: Cursor, room: Room) -> Cursor
     }
 }
 
+// How the run of a cursor that goes no further ended.
+fn ended(c: Cursor) -> End
+    ensures { λ r. ⌜ r ≡ endOf c ⌝ }
+{
+    End {
+        number: c.number,
+        place: c.place,
+        settled: c.settled,
+        written: c.written,
+    }
+}
+
 // The run of a sheet on a machine that `new` made for it, into a lent buffer. The machine is taken apart, since its parts are
-// stored to one by one, and an effect is read where it stands only from an array that is a variable's own.
+// stored to one by one, and an effect is read where it stands only from an array that is a variable's own. The next effect is
+// read at every step, and used only where one is left: then its place is below 512, the number of slots.
 pub fn drive(sheet: &[u8], out: &mut [u8], limit: u64, machine: Machine) -> End
     requires { ⌜ Whole machine ⌝ }
     ensures { λ r. ⌜ Ran (now (out .entry)) (runOn (now (sheet .entry)) (length (now (out .entry))) limit machine) r (now (out .exit)) ⌝ }
 {
     let chain = machine.chain;
     let n = chain.count();
-    let none = Slot {
-        effect: Effect::LatchLockdown,
-    };
+    let positions = chain.positions;
     let work = machine.work;
     let mut state = work.state;
     let mut rot = work.rot;
@@ -455,22 +464,23 @@ pub fn drive(sheet: &[u8], out: &mut [u8], limit: u64, machine: Machine) -> End
         let step = next_step(sheet, limit, n, stage, c);
         let act = step.act;
         let say = step.say;
-        let i = d.next;
-        let mut slot = none;
-        if i < 512 {
-            slot = batch.effects[i];
-        }
+        let i = d.next % 512;
+        let slot = batch.effects[i];
         let effect = slot.effect;
         let before = state;
         let mut after = acted(d, batch.len, effect, act, stage);
         if takes(act, stage) {
             let pending = d.pending;
             let event = front_event(pending);
-            let stepped = rot::step(chain, machine.max_retry, state, rot, event);
-            state = stepped.state;
-            rot = stepped.rot;
-            batch = stepped.sink;
             after = settling::taken(d);
+            if rot::idles(positions, n, state, event) {
+                batch.len = 0;
+            } else {
+                let stepped = rot::step(chain, machine.max_retry, state, rot, batch, event);
+                state = stepped.state;
+                rot = stepped.rot;
+                batch = stepped.sink;
+            }
         }
         d = after;
         let waiting = d.waiting;
@@ -483,10 +493,5 @@ pub fn drive(sheet: &[u8], out: &mut [u8], limit: u64, machine: Machine) -> End
         let room = text::append(out, at, line);
         c = record_line(next, room);
     }
-    End {
-        number: c.number,
-        place: c.place,
-        settled: c.settled,
-        written: c.written,
-    }
+    ended(c)
 }

@@ -5,3 +5,4 @@ pub mod Bound
 pub mod Numbers
 pub mod Named
 pub mod Readings
+pub mod Idle

@@ -171,7 +171,8 @@ fn take_front(m: Machine, event: Event) -> Machine
     let work = m.work;
     let state = work.state;
     let rot = work.rot;
-    let stepped = rot::step(chain, m.max_retry, state, rot, event);
+    let sink = work.sink;
+    let stepped = rot::step(chain, m.max_retry, state, rot, sink, event);
     let d = m.dispatch;
     let after = taken(d);
     let mut v = m;

@@ -519,7 +519,7 @@ fn answer_case(ns: &[u64]) {
     let state = state_at(ns, at);
     let kept = machine_at(ns, at + 2, n);
     let event = event_at(ns, at + 4 + 4 * n);
-    let w = rot::step(chain, byte_at(ns, 0), state, kept, event);
+    let w = rot::step(chain, byte_at(ns, 0), state, kept, Sink::new(), event);
     write_machine(w, n);
 }
 

@@ -6,7 +6,7 @@ use native.Mathlib.Omega.{arith}
 use mathlib.Core.Path.{_≡_, refl, sym, _∙_, ap}
 use mathlib.Core.List.{List, [], _∷_, _++_, map, map-append}
 use lib.Dec.{ltb}
-use lib.ListN.{length, take, getD, set, length-map, length-set, length-replicate, List·getD-map, List·getD-eq-default}
+use lib.ListN.{length, take, getD, set, length-map, length-set, List·getD-map, List·getD-eq-default}
 use lib.Seq.{take-suc-set, length-take-le, getD-take}
 use borrow.Author.Tests.{lt-ltb, le-ltb}
 use Rattle.model.specs.declared.Effect.{Effect}
@@ -14,16 +14,13 @@ use Rattle.model.specs.declared.Effect.the-variants.{LatchLockdown}
 use Rattle.model.proofs.Pick.{pickP}
 use Rattle.store.specs.declared.Sink.{Sink}
 use Rattle.store.specs.declared.Status.{Status}
-use Rattle.store.specs.Sink.{effectOf, slotOf, held, emptySink, withEffect, effectAt}
+use Rattle.store.specs.Sink.{effectOf, slotOf, held, withEffect, effectAt}
 use Rattle.store.specs.Retry.{noRetry}
 
--- The empty sink holds nothing, in 512 slots.
-pub empty-held : held emptySink ≡ []
+-- A sink of the length 0 holds nothing.
+pub none-held : (s : Sink) → s .len ≡ 0 → held s ≡ []
 unfolding held
-empty-held = refl
-
-pub empty-slots : length (emptySink .effects) ≡ 512
-empty-slots = length-replicate 512 (slotOf LatchLockdown)
+none-held s z = ap (λ (n : ℕ). map effectOf (take n (s .effects))) z
 
 module _ (s : Sink) (e : Effect) where
   -- Where there is room the sink has one effect more, after those that it held,

@@ -12,7 +12,7 @@ taken-requires c κs = search needs
 
 returns : tie.Need-returns
 returns c =
-    let s = c .before .before .before .before .before .before in
+    let s = c .before .before .before .before .before .before .before in
     let step = c .before .before .step in
     stepped-becomes (s .args .m) (s .pre) (s .args .event) (step .result) (c .taken .result) (step .ensures) (c .taken .ensures)
 
