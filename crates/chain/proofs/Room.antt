@@ -3,10 +3,8 @@ use Prim.Native.Nat.{_≤_}
 use mathlib.Core.Path.{_≡_}
 use native.Mathlib.Omega.{arith}
 use lib.ListN.{length}
-use Rattle.model.specs.declared.ComponentId.{ComponentId}
 use Rattle.components.specs.declared.ComponentList.{ComponentList}
-use Rattle.components.specs.Chain.{entriesOf, position}
-use Rattle.components.proofs.Lookup.{position-bound}
+use Rattle.components.specs.Chain.{entriesOf}
 use Rattle.components.proofs.Walk.{kept-length}
 use Rattle.chain.specs.declared.Chain.{Chain}
 use Rattle.chain.specs.Tables.{entries}
@@ -14,9 +12,6 @@ use Rattle.chain.specs.Tables.{entries}
 module _ (l : ComponentList) (full : length (l .entries) ≡ 255) where
   pub few : length (entriesOf l) ≤ 255
   few = omega (arith, kept-length l full)
-
-  pub position-few : (id : ComponentId) → position (entriesOf l) id ≤ 255
-  position-few id = omega (arith, few, position-bound (entriesOf l) id)
 
 -- Of a list that is not too long every entry is in the chain.
 pub all-kept : (c : Chain) → length (c .list .entries) ≡ 255 → c .list .len ≤ 255 → length (entries c) ≡ c .list .len

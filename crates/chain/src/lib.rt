@@ -1,6 +1,7 @@
 // A chain: an accepted list with the two tables that are worked out of it once, so that no rule searches it again.
 ghost use mathlib.Core.Path.{_≡_};
 ghost use Prim.Native.Nat.{_≤_, _<_};
+ghost use mathlib.Core.List.{List};
 ghost use lib.ListN.{length};
 ghost use Rattle.model.specs.Vocabulary.{idOf};
 ghost use Rattle.components.specs.Chain.{entriesOf, position, at, idAt};
@@ -22,43 +23,52 @@ pub struct Chain {
     pub parents: [u8; 255],
 }
 
-// The position that an optional id names, or the number of components. It fits a byte: at most 255 entries are kept.
-fn place_of(list: ComponentList, id: OptionId) -> u8
-    ensures { λ r. ⌜ r ≡ place (entriesOf list) id ⌝ }
+// The position that an optional id names in any chain of `n` components whose table this is: no search, and no list to copy.
+fn place_of(positions: [u8; 256], n: u8, id: OptionId) -> u8
+    ensures { λ r. ⌜ ((ch : List Component) → Filled (λ i. position ch (idOf i)) 256 positions → n ≡ length ch → r ≡ place ch id) ⌝ }
 {
     match id {
-        OptionId::None => list.count() as u8,
-        OptionId::Some(i) => list.position(i) as u8,
+        OptionId::None => n,
+        OptionId::Some(i) => {
+            let at = i.0 as usize;
+            positions[at]
+        }
     }
 }
 
-// Every id is looked up once, also those that no component has.
+// From the last component to the first, so that of equal ids the first has the place. An id that no component has keeps the
+// number of components, which fits a byte: at most 255 entries are kept.
 fn positions_of(list: ComponentList) -> [u8; 256]
     ensures { λ r. ⌜ Filled (λ i. position (entriesOf list) (idOf i)) 256 r ⌝ }
 {
-    let mut positions = [0u8; 256];
-    let mut i: usize = 0;
-    while i < 256 {
-        let id = ComponentId(i as u8);
-        let place = place_of(list, OptionId::Some(id));
-        positions[i] = place;
-        i += 1;
+    let n = list.count();
+    let none = n as u8;
+    let mut positions = [none; 256];
+    let mut k: usize = n;
+    while 0 < k {
+        k -= 1;
+        let c = list.entries[k];
+        let id = c.id;
+        let i = id.0 as usize;
+        positions[i] = k as u8;
     }
     positions
 }
 
 // What stands past the number of components stays 0: no one reads it.
-fn parents_of(list: ComponentList) -> [u8; 255]
+fn parents_of(list: ComponentList, positions: [u8; 256]) -> [u8; 255]
+    requires { ⌜ Filled (λ i. position (entriesOf list) (idOf i)) 256 positions ⌝ }
     ensures { λ r. ⌜ Filled (parent (entriesOf list)) (length (entriesOf list)) r ⌝ }
 {
     let n = list.count();
+    let none = n as u8;
     let mut parents = [0u8; 255];
     let mut p: usize = 0;
     while p < n {
         let c = list.entries[p];
         let attrs = c.attrs;
         let depends_on = attrs.depends_on;
-        let place = place_of(list, depends_on);
+        let place = place_of(positions, none, depends_on);
         parents[p] = place;
         p += 1;
     }
@@ -71,7 +81,7 @@ impl Chain {
         ensures { λ r. ⌜ ChartOf list r ⌝ }
     {
         let positions = positions_of(list);
-        let parents = parents_of(list);
+        let parents = parents_of(list, positions);
         Chain {
             list: list,
             positions: positions,

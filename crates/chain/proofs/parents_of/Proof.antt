@@ -15,13 +15,17 @@ use Rattle.chain.proofs.parents_of.Statement.{statement}
 use Rattle.chain.proofs.parents_of.Tie as tie
 
 abbrev Inv-loop : tie.InvT-loop
-Inv-loop list n parents₀ p₀ parents p = (p ≤ n) × (length parents ≡ 255) × Filled (parent (entriesOf list)) p parents
+Inv-loop positions list n none parents₀ p₀ parents p =
+    (p ≤ n) × (length parents ≡ 255) × Filled (parent (entriesOf list)) p parents
 
 abbrev μ-loop : tie.MeasureT-loop
-μ-loop list n parents₀ p₀ parents p = n - p
+μ-loop positions list n none parents₀ p₀ parents p = n - p
 
 count-requires : tie.Need-count-requires Inv-loop μ-loop
 count-requires c κs = search needs
+
+cast-none : tie.Need-cast-none Inv-loop μ-loop
+cast-none c = search needs
 
 loop-holds : tie.Need-loop-holds Inv-loop μ-loop
 loop-holds c = (omega arith, length-replicate {A = ℕ} 255 0, λ j h. absurd (omega arith))
@@ -47,13 +51,15 @@ loop-less c = omega arith
 loop-again : tie.Need-loop-again Inv-loop μ-loop
 loop-again c =
     let l = c .before .before .before .before in
-    let s = l .before .before .args .t1 in
+    let o = l .before .before in
+    let s = o .args .t1 in
     let full : length (s .entries) ≡ 255 = search (needs, unmap) in
     let k = kept-at s full (l .loop .p) (omega arith) in (
       omega arith,
       simp length-set (l .loop .inv .1),
       fill-next _ (l .loop .parents) (l .loop .p) _ (omega arith) (l .loop .inv .2)
-          (c .place-of .ensures ∙ ap (λ (e : Component). place (entriesOf s) (e .attrs .«depends_on»)) (sym k)),
+          (c .place-of .ensures (entriesOf s) (o .pre) (l .before .count .ensures .0)
+          ∙ ap (λ (e : Component). place (entriesOf s) (e .attrs .«depends_on»)) (sym k)),
     )
 
 returns : tie.Need-returns Inv-loop μ-loop
@@ -66,6 +72,7 @@ parents-of-spec =
     Inv-loop
     μ-loop
     count-requires
+    cast-none
     loop-holds
     mul-c
     element-copy-out-c

@@ -1,50 +1,74 @@
--- `positions_of` meets its contract: before the turn of `i` the table is filled up to `i`.
+-- `positions_of` meets its contract: before each turn the table is that of the components from `k` on.
 use native.Mathlib.Omega.{arith}
 use Prim.Native.Nat.{ℕ, _-_, _≤_}
-use mathlib.Core.Path.{_≡_}
+use mathlib.Core.Path.{_≡_, ap}
 use lib.ListN.{length, length-set, length-replicate}
 use borrow.Author.Needs.{needs}
-use Rattle.model.specs.Vocabulary.{idOf}
-use Rattle.components.specs.Chain.{entriesOf, position}
+use Rattle.model.specs.declared.Component.{Component}
+use Rattle.model.proofs.Arrays.{unmap}
+use Rattle.components.specs.Chain.{entriesOf}
+use Rattle.components.proofs.Walk.{kept-at}
 use Rattle.chain.specs.Filled.{Filled}
-use Rattle.chain.proofs.Fill.{fill-next}
+use Rattle.chain.proofs.Fill.{positionFrom, none-known, one-more, all-known}
 use Rattle.chain.proofs.positions_of.Statement.{statement}
 use Rattle.chain.proofs.positions_of.Tie as tie
 
 abbrev Inv-loop : tie.InvT-loop
-Inv-loop list positions₀ i₀ positions i = (i ≤ 256) × (length positions ≡ 256) × Filled (λ (j : ℕ). position (entriesOf list) (idOf j)) i positions
+Inv-loop list n none positions₀ k₀ positions k =
+    (k ≤ n) × (length positions ≡ 256) × Filled (positionFrom (entriesOf list) k) 256 positions
 
 abbrev μ-loop : tie.MeasureT-loop
-μ-loop list positions₀ i₀ positions i = 256 - i
+μ-loop list n none positions₀ k₀ positions k = k
+
+count-requires : tie.Need-count-requires Inv-loop μ-loop
+count-requires c κs = search needs
+
+cast-none : tie.Need-cast-none Inv-loop μ-loop
+cast-none c = search needs
 
 loop-holds : tie.Need-loop-holds Inv-loop μ-loop
-loop-holds c = (omega arith, length-replicate {A = ℕ} 256 0, λ j h. absurd (omega arith))
+loop-holds c =
+    let ch = entriesOf (c .before .args .t1) in
+    (omega arith, length-replicate {A = ℕ} 256 (c .count .result), none-known ch 256 _ _ (omega arith) (omega arith))
 
-cast-t7 : tie.Need-cast-t7 Inv-loop μ-loop
-cast-t7 c = omega arith
+sub-k : tie.Need-sub-k Inv-loop μ-loop
+sub-k c = omega arith
 
-place-of-requires : tie.Need-place-of-requires Inv-loop μ-loop
-place-of-requires c κs = search needs
+mul-c : tie.Need-mul-c Inv-loop μ-loop
+mul-c c = omega arith
+
+element-copy-out-c : tie.Need-element-copy-out-c Inv-loop μ-loop
+element-copy-out-c c = omega arith
+
+cast-i : tie.Need-cast-i Inv-loop μ-loop
+cast-i c = search needs
+
+cast-positions : tie.Need-cast-positions Inv-loop μ-loop
+cast-positions c = omega arith
 
 array-write-positions : tie.Need-array-write-positions Inv-loop μ-loop
 array-write-positions c = search needs
-
-add-i : tie.Need-add-i Inv-loop μ-loop
-add-i c = omega arith
 
 loop-less : tie.Need-loop-less Inv-loop μ-loop
 loop-less c = omega arith
 
 loop-again : tie.Need-loop-again Inv-loop μ-loop
 loop-again c =
-    let l = c .before .before in (
+    let l = c .before .before .before .before in
+    let s = l .before .before .args .t1 in
+    let k = l .loop .k in
+    let full : length (s .entries) ≡ 255 = search (needs, unmap) in
+    let own = ap (λ (e : Component). e .id .0) (kept-at s full (k - 1) (omega arith)) in (
       omega arith,
       simp length-set (l .loop .inv .1),
-      fill-next _ (l .loop .positions) (l .loop .i) _ (omega arith) (l .loop .inv .2) (c .place-of .ensures),
+      one-more (entriesOf s) 256 (k - 1) k _ _ (l .loop .positions) (omega arith) (omega arith) (omega (arith, own))
+          (omega arith) (l .loop .inv .1) (search needs) (l .loop .inv .2),
     )
 
 returns : tie.Need-returns Inv-loop μ-loop
-returns c = λ j h. c .before .loop .inv .2 j (omega arith)
+returns c =
+    let l = c .before in
+    all-known (entriesOf (l .before .before .args .t1)) 256 (l .loop .k) (l .loop .positions) (omega arith) (l .loop .inv .2)
 
 pub positions-of-spec : {M : Type 1} → statement M
 positions-of-spec =
@@ -52,11 +76,15 @@ positions-of-spec =
     (tie.spec
     Inv-loop
     μ-loop
+    count-requires
+    cast-none
     loop-holds
-    cast-t7
-    place-of-requires
+    sub-k
+    mul-c
+    element-copy-out-c
+    cast-i
+    cast-positions
     array-write-positions
-    add-i
     loop-less
     loop-again
     returns)
