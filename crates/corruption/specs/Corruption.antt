@@ -1,4 +1,5 @@
 -- Section 3: corruption, each rule from a machine to the next one and the effects of the step.
+use mathlib.Core.Bool.{Bool, true, false}
 use mathlib.Core.List.{List, [], _∷_}
 use Prim.Native.Nat.{ℕ, suc}
 use Rattle.model.specs.Vocabulary.{pick}
@@ -21,6 +22,10 @@ abbrev pub byPolicy {ℓ} : {A : Type ℓ} → FailurePolicy → A → A → A �
 byPolicy Required a b c = a
 byPolicy Isolable a b c = b
 byPolicy Cascading a b c = c
+
+-- May a component of this policy be isolated?
+abbrev pub mayIsolate : FailurePolicy → Bool
+mayIsolate f = byPolicy f false true true
 
 -- Gate the positions of a list, then go on by k.
 abbrev pub gateThen : List Component → List ℕ → (Core → Out) → Core → Out

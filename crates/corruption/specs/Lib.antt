@@ -1,4 +1,3 @@
 -- The definitions that the contracts cite.
 pub mod Corruption
 pub mod Cases
-pub mod Gates

@@ -1,15 +1,15 @@
 // Corruption. Each function takes the machine at work by value and hands it back; the
 // effects go into its sink in order.
+ghost use mathlib.Core.Path.{_≡_};
 ghost use Prim.Native.Nat.{_<_};
 ghost use Rattle.chain.specs.Tables.{entries, size};
 ghost use Rattle.cascade.specs.Cascade.{cascade};
-ghost use Rattle.machine.specs.View.{out};
+ghost use Rattle.machine.specs.View.{out, stay};
 ghost use Rattle.machine.specs.Acts.{Does};
 ghost use Rattle.holds.specs.Acts.{gatingAll};
 ghost use Rattle.entry.specs.Premise.{Sane, Placed, DoesAll};
-ghost use Rattle.corruption.specs.Corruption.{corrupt, moveOn, recover};
+ghost use Rattle.corruption.specs.Corruption.{mayIsolate, gateByPolicy, corrupt, moveOn, recover};
 ghost use Rattle.corruption.specs.Cases.{follows, before};
-ghost use Rattle.corruption.specs.Gates.{GatesBy};
 use chain::Chain;
 use machine::Work;
 use model::ComponentId;
@@ -32,38 +32,28 @@ fn cascade_hold(chain: Chain, w: Work, p: usize) -> Work
     holds::gate_all(chain, w, order)
 }
 
-// Whether a component was gated, and the machine after that.
-pub struct Gating {
-    pub gated: bool,
-    pub work: Work,
+// May a component of this policy be isolated? A Required one is recovered in its place.
+pub fn may_isolate(policy: FailurePolicy) -> bool
+    ensures { λ r. ⌜ r ≡ mayIsolate policy ⌝ }
+{
+    match policy {
+        FailurePolicy::Required => false,
+        FailurePolicy::Isolable => true,
+        FailurePolicy::Cascading => true,
+    }
 }
 
-// What the policy of the component at p means. Corruption and exhausted recovery both ask here, so that they cannot differ;
-// where nothing was gated the caller says what happens.
-pub fn gate_by_policy(chain: Chain, w: Work, p: usize) -> Gating
+// What the policy of the component at p means. Corruption and exhausted recovery both ask here, so that they cannot differ.
+// Where it gates nothing the machine stays as it is, and the caller says what happens.
+pub fn gate_by_policy(chain: Chain, w: Work, p: usize) -> Work
     requires { ⌜ (Sane chain w) × (p < size chain) ⌝ }
-    ensures { λ r. ⌜ GatesBy chain w p r ⌝ }
+    ensures { λ r. ⌜ Does (size chain) w (gateByPolicy (entries chain) p stay stay) r ⌝ }
 {
     let policy = chain.policy_at(p);
     match policy {
-        FailurePolicy::Required => Gating {
-            gated: false,
-            work: w,
-        },
-        FailurePolicy::Isolable => {
-            let v = holds::gate_one(chain, w, p);
-            Gating {
-                gated: true,
-                work: v,
-            }
-        }
-        FailurePolicy::Cascading => {
-            let v = cascade_hold(chain, w, p);
-            Gating {
-                gated: true,
-                work: v,
-            }
-        }
+        FailurePolicy::Required => w,
+        FailurePolicy::Isolable => holds::gate_one(chain, w, p),
+        FailurePolicy::Cascading => cascade_hold(chain, w, p),
     }
 }
 
@@ -136,13 +126,13 @@ pub fn handle_corruption(
 {
     let n = chain.count();
     let rot = w.rot;
-    if machine::is_gated(rot, n, p) {
-        return follow(chain, w, situation);
+    let mut v = w;
+    if !machine::is_gated(rot, n, p) {
+        let policy = chain.policy_at(p);
+        if !may_isolate(policy) {
+            return start_recovery(chain, w, id, p, situation);
+        }
+        v = gate_by_policy(chain, w, p);
     }
-    let g = gate_by_policy(chain, w, p);
-    let v = g.work;
-    if g.gated {
-        return follow(chain, v, situation);
-    }
-    start_recovery(chain, v, id, p, situation)
+    follow(chain, v, situation)
 }

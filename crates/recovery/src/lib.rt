@@ -61,12 +61,12 @@ fn exhaust_recovery(chain: Chain, w: Work, id: ComponentId, p: usize) -> Work
     requires { ⌜ Placed chain w id p ⌝ }
     ensures { λ r. ⌜ Does (size chain) w (exhausted (entries chain) id) r ⌝ }
 {
-    let g = corruption::gate_by_policy(chain, w, p);
-    let v = g.work;
-    if g.gated {
+    let policy = chain.policy_at(p);
+    if corruption::may_isolate(policy) {
+        let v = corruption::gate_by_policy(chain, w, p);
         return start_over(chain, v, id, p);
     }
-    let u = machine::say(v, Effect::ReportRecoveryFailed(id));
+    let u = machine::say(w, Effect::ReportRecoveryFailed(id));
     machine::say(u, Effect::Emit(Event::RecoveryFailed))
 }
 

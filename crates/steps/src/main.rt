@@ -386,30 +386,7 @@ fn alone(effect: u64) -> Row {
 }
 
 fn event_number(e: Event) -> u64 {
-    match e {
-        Event::PowerGood(_) => 0,
-        Event::VerificationPassed(_) => 1,
-        Event::VerificationFailed(_) => 2,
-        Event::ComponentReady(_) => 3,
-        Event::Booted(_) => 4,
-        Event::AttestationChallenge => 5,
-        Event::UpdateRequest => 6,
-        Event::UpdateVerified => 7,
-        Event::UpdateRejected => 8,
-        Event::BootConfirmed(_) => 9,
-        Event::CorruptionDetected(_) => 10,
-        Event::Restored(_) => 11,
-        Event::RecoveryUnavailable(_) => 12,
-        Event::RecoveryFailed => 13,
-        Event::BootFailed {
-            id: _,
-            checkpoint: _,
-            kind: _,
-        } => 14,
-        Event::Timeout(_) => 15,
-        Event::CommitTimeout => 16,
-        Event::EffectFailed => 17,
-    }
+    table::event_no(e) as u64
 }
 
 fn effect_numbers(e: Effect) -> Row {

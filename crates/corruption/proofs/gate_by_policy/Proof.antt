@@ -33,7 +33,7 @@ returns c =
     let ch = entries (s .args .chain) in
     let x = c .before .before .policy-at .ensures in
     let e = policy-now ch (s .args .p) (s .args .p) _ _ refl x (c .enum-told .given .1) in
-    record { told = rw e refl; done = rw e (ran-none (s .pre .0 .fit)) }
+    rw e (ran-none (s .pre .0 .fit))
 
 returns-2 : tie.Need-returns-2
 returns-2 c =
@@ -42,7 +42,7 @@ returns-2 c =
     let x = c .before .before .before .policy-at .ensures in
     let e = policy-now ch (s .args .p) (s .args .p) _ _ refl x (c .before .enum-told2 .given .1) in
     let g = c .gate-one .ensures in
-    record { told = rw e refl; done = rw e (hold-one ch (s .args .p) (s .args .p) stay refl g (ran-none (g .fit))) }
+    rw e (hold-one ch (s .args .p) (s .args .p) stay refl g (ran-none (g .fit)))
 
 returns-3 : tie.Need-returns-3
 returns-3 c =
@@ -51,7 +51,7 @@ returns-3 c =
     let x = c .before .before .before .policy-at .ensures in
     let e = policy-now ch (s .args .p) (s .args .p) _ _ refl x (c .before .enum-told3 .given .1) in
     let g = c .cascade-hold .ensures in
-    record { told = rw e refl; done = rw e (hold-all ch (s .args .p) (s .args .p) stay refl g (ran-none (g .fit))) }
+    rw e (hold-all ch (s .args .p) (s .args .p) stay refl g (ran-none (g .fit)))
 
 pub gate-by-policy-spec : {M : Type 1} → statement M
 gate-by-policy-spec =

@@ -80,9 +80,12 @@ event-at-requires c κs = search needs
 byte-at-requires : tie.Need-byte-at-requires
 byte-at-requires c κs = search needs
 
+new-requires : tie.Need-new-requires
+new-requires c κs = search needs
+
 step-requires : tie.Need-step-requires
 step-requires c κs =
-    let m = c .before .before in
+    let m = c .before .before .before in
     let n = m .before .before in
     let o = n .before in
     let t = o .before .before in
@@ -121,6 +124,7 @@ answer-case-spec =
     add-event-at-2
     event-at-requires
     byte-at-requires
+    new-requires
     step-requires
     write-machine-requires
     returns-2)
