@@ -4,8 +4,8 @@
  * and memset alone. Neither call uses the heap or keeps
  * anything between calls, so calls may come from several threads at once. A call
  * reads the sheet, writes to out alone, and always returns. It needs less than
- * 256 KiB of stack: with 255 components 146,648 bytes were measured for
- * mallardtray_run (board/stack.c).
+ * 256 KiB of stack: 131,432 bytes were measured for mallardtray_run
+ * (board/stack.c).
  *
  * A buffer is a pointer and a length in bytes. The two buffers of run must not
  * overlap. With the length 0 the pointer may be NULL.

@@ -1,4 +1,4 @@
--- The two tables of a chain, place after place: the parents from the first component on, the positions from the last one.
+-- The two tables of a chain: the parents from the first component on, the places of the ids from the last one.
 use Prim.Native.Nat.{ℕ, _+_, _<_, _≤_}
 use mathlib.Core.Path.{_≡_, refl, sym, _∙_, ap}
 use mathlib.Core.Bool.{Bool, true, false}
@@ -15,16 +15,17 @@ use Rattle.components.specs.Chain.{position, idAt}
 use Rattle.components.proofs.Walk.{position-here, position-next, position-end}
 use Rattle.chain.specs.Filled.{Filled}
 
-module _ (f : ℕ → ℕ) (table : List ℕ) (n v : ℕ) where
-  -- The rule's value at the next place, and one place more is filled.
-  pub fill-next : n < length table → Filled f n table → v ≡ f n → Filled f (n + 1) (set table n v)
-  fill-next room filled e i h = by-test (eqb i n) refl
-    where
-      by-test : (b : Bool) → eqb i n ≡ b → getD (set table n v) i 0 ≡ f i
-      by-test true t = rw (eqb-true i n t) (getD-set-same table n v 0 room ∙ e)
-      by-test false t =
-          let other : i ≡ n → ⊥ = eqb-false i n t in
-          getD-set-other table n i v 0 other ∙ filled i (omega arith)
+-- At the place that is set the value is the rule's, and so it is at another place if it was.
+set-as : (f : ℕ → ℕ) (table : List ℕ) (x v i : ℕ) → x < length table → v ≡ f x → ((i ≡ x → ⊥) → getD table i 0 ≡ f i) → getD (set table x v) i 0 ≡ f i
+set-as f table x v i room e kept = by-test (eqb i x) refl
+  where
+    by-test : (b : Bool) → eqb i x ≡ b → getD (set table x v) i 0 ≡ f i
+    by-test true t = rw (eqb-true i x t) (getD-set-same table x v 0 room ∙ e)
+    by-test false t = let other : i ≡ x → ⊥ = eqb-false i x t in getD-set-other table x i v 0 other ∙ kept other
+
+-- The rule's value at the next place, and one place more is filled.
+pub fill-next : (f : ℕ → ℕ) (table : List ℕ) (n v : ℕ) → n < length table → Filled f n table → v ≡ f n → Filled f (n + 1) (set table n v)
+fill-next f table n v room filled e i h = set-as f table n v i room e (λ other. filled i (omega (arith, other)))
 
 module _ (ch : List Component) where
   -- The position of an id where only the components from k on are known.
@@ -41,16 +42,9 @@ module _ (ch : List Component) where
     further i apart = position-next ch (idOf i) j more (ne-eqb _ _ apart) ∙ ap (λ (n : ℕ). positionFrom n i) (sym step)
 
     pub one-more : length table ≡ m → x < m → Filled (positionFrom k) m table → Filled (positionFrom j) m (set table x v)
-    one-more long room filled i h = by-test (eqb i x) refl
-      where
-        by-test : (b : Bool) → eqb i x ≡ b → getD (set table x v) i 0 ≡ positionFrom j i
-        by-test true t =
-            let same : i ≡ x = eqb-true i x t in
-            let here = position-here ch (idOf i) j more (eq-eqb _ _ (sym (same ∙ own))) in
-            ap (λ (n : ℕ). getD (set table x v) n 0) same ∙ getD-set-same table x v 0 (omega arith) ∙ e ∙ sym here
-        by-test false t =
-            let other : i ≡ x → ⊥ = eqb-false i x t in
-            getD-set-other table x i v 0 other ∙ filled i h ∙ sym (further i (λ q. other (sym (own ∙ q))))
+    one-more long room filled i h =
+        let here = position-here ch (idOf x) j more (eq-eqb _ _ (sym own)) in
+        set-as (positionFrom j) table x v i (omega arith) (e ∙ sym here) (λ other. filled i h ∙ sym (further i (λ q. other (sym (own ∙ q)))))
 
   -- Once all are known the table is that of the chain.
   pub all-known : (m k : ℕ) (table : List ℕ) → k ≡ 0 → Filled (positionFrom k) m table

@@ -3,11 +3,10 @@ ghost use mathlib.Core.Path.{_≡_};
 ghost use Prim.Native.Nat.{_≤_, _<_};
 ghost use mathlib.Core.List.{List};
 ghost use lib.ListN.{length};
-ghost use Rattle.model.specs.Vocabulary.{idOf};
 ghost use Rattle.components.specs.Chain.{entriesOf, position, at, idAt};
 ghost use Rattle.chain.specs.Links.{place, parent, kindAt, policyAt};
 ghost use Rattle.chain.specs.Tables.{entries, Charted};
-ghost use Rattle.chain.specs.Filled.{Filled, ChartOf};
+ghost use Rattle.chain.specs.Filled.{Filled, ById, ChartOf};
 use components::ComponentList;
 use model::Component;
 use model::ComponentId;
@@ -25,7 +24,7 @@ pub struct Chain {
 
 // The position that an optional id names in any chain of `n` components whose table this is: no search, and no list to copy.
 fn place_of(positions: [u8; 256], n: u8, id: OptionId) -> u8
-    ensures { λ r. ⌜ ((ch : List Component) → Filled (λ i. position ch (idOf i)) 256 positions → n ≡ length ch → r ≡ place ch id) ⌝ }
+    ensures { λ r. ⌜ ((ch : List Component) → ById ch positions → n ≡ length ch → r ≡ place ch id) ⌝ }
 {
     match id {
         OptionId::None => n,
@@ -39,7 +38,7 @@ fn place_of(positions: [u8; 256], n: u8, id: OptionId) -> u8
 // From the last component to the first, so that of equal ids the first has the place. An id that no component has keeps the
 // number of components, which fits a byte: at most 255 entries are kept.
 fn positions_of(list: ComponentList) -> [u8; 256]
-    ensures { λ r. ⌜ Filled (λ i. position (entriesOf list) (idOf i)) 256 r ⌝ }
+    ensures { λ r. ⌜ ById (entriesOf list) r ⌝ }
 {
     let n = list.count();
     let none = n as u8;
@@ -57,7 +56,7 @@ fn positions_of(list: ComponentList) -> [u8; 256]
 
 // What stands past the number of components stays 0: no one reads it.
 fn parents_of(list: ComponentList, positions: [u8; 256]) -> [u8; 255]
-    requires { ⌜ Filled (λ i. position (entriesOf list) (idOf i)) 256 positions ⌝ }
+    requires { ⌜ ById (entriesOf list) positions ⌝ }
     ensures { λ r. ⌜ Filled (parent (entriesOf list)) (length (entriesOf list)) r ⌝ }
 {
     let n = list.count();

@@ -19,7 +19,7 @@ use Rattle.machine.specs.View.{Core, Out, out, stay, after, statusesAre, coreOf
 use Rattle.holds.specs.Acts.{gating, gatingAll}
 use Rattle.machine.specs.Acts.{Does}
 use Rattle.machine.proofs.Runs.{ran-as, ran-then}
-use Rattle.corruption.specs.Corruption.{byPolicy, mayIsolate, gateThen, gateByPolicy}
+use Rattle.corruption.specs.Corruption.{byPolicy, gatesFailed, gateThen, gateByPolicy}
 
 -- An isolated component is one of the chain's.
 pub gated-inside : (st : List ComponentStatus) (q : ℕ) → iso (statusAt st q) ≡ true → q < length st
@@ -57,17 +57,17 @@ module _ (ch : List Component) (ps qs : List ℕ) (r k : Core → Out) (c : Core
   abbrev whole : FailurePolicy → Out
   whole f = byPolicy f (r c) (gateThen ch ps k c) (gateThen ch qs k c)
 
-  gated-whole : (f : FailurePolicy) → true ≡ mayIsolate f → after (held f .said) (k (held f .core)) ≡ whole f
+  gated-whole : (f : FailurePolicy) → true ≡ gatesFailed f → after (held f .said) (k (held f .core)) ≡ whole f
   gated-whole Required t = never t
   gated-whole Isolable t = then-follows ch ps k c
   gated-whole Cascading t = then-follows ch qs k c
 
-  ungated-whole : (f : FailurePolicy) → false ≡ mayIsolate f → r c ≡ whole f
+  ungated-whole : (f : FailurePolicy) → false ≡ gatesFailed f → r c ≡ whole f
   ungated-whole Required t = refl
   ungated-whole Isolable t = never (sym t)
   ungated-whole Cascading t = never (sym t)
 
-module _ {n : ℕ} {w u : Work} (ch : List Component) (p q : ℕ) (b : Bool) (r k : Core → Out) (here : p ≡ q) (told : b ≡ mayIsolate (policyAt ch p)) where
+module _ {n : ℕ} {w u : Work} (ch : List Component) (p q : ℕ) (b : Bool) (r k : Core → Out) (here : p ≡ q) (told : b ≡ gatesFailed (policyAt ch p)) where
   pub gated-then : {v : Work} → b ≡ true → Does n w (gateByPolicy ch p stay stay) v → Does n v k u → Ran n w (gateByPolicy ch q r k (coreOf n w)) u
   gated-then t done d =
       let e = gated-whole ch (p ∷ []) (cascade ch p) r k (coreOf n w) (policyAt ch p) (sym t ∙ told) in

@@ -23,9 +23,9 @@ byPolicy Required a b c = a
 byPolicy Isolable a b c = b
 byPolicy Cascading a b c = c
 
--- May a component of this policy be isolated?
-abbrev pub mayIsolate : FailurePolicy → Bool
-mayIsolate f = byPolicy f false true true
+-- Is a component of this policy gated when it fails? (A cascade also gates Required ones that depend on its root.)
+abbrev pub gatesFailed : FailurePolicy → Bool
+gatesFailed f = byPolicy f false true true
 
 -- Gate the positions of a list, then go on by k.
 abbrev pub gateThen : List Component → List ℕ → (Core → Out) → Core → Out

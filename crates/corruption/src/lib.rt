@@ -8,7 +8,7 @@ ghost use Rattle.machine.specs.View.{out, stay};
 ghost use Rattle.machine.specs.Acts.{Does};
 ghost use Rattle.holds.specs.Acts.{gatingAll};
 ghost use Rattle.entry.specs.Premise.{Sane, Placed, DoesAll};
-ghost use Rattle.corruption.specs.Corruption.{mayIsolate, gateByPolicy, corrupt, moveOn, recover};
+ghost use Rattle.corruption.specs.Corruption.{gatesFailed, gateByPolicy, corrupt, moveOn, recover};
 ghost use Rattle.corruption.specs.Cases.{follows, before};
 use chain::Chain;
 use machine::Work;
@@ -32,9 +32,9 @@ fn cascade_hold(chain: Chain, w: Work, p: usize) -> Work
     holds::gate_all(chain, w, order)
 }
 
-// May a component of this policy be isolated? A Required one is recovered in its place.
-pub fn may_isolate(policy: FailurePolicy) -> bool
-    ensures { λ r. ⌜ r ≡ mayIsolate policy ⌝ }
+// Does this policy gate a component that fails? Required does not: a corruption recovers it, and exhaustion reports it.
+pub fn gates_failed(policy: FailurePolicy) -> bool
+    ensures { λ r. ⌜ r ≡ gatesFailed policy ⌝ }
 {
     match policy {
         FailurePolicy::Required => false,
@@ -43,8 +43,8 @@ pub fn may_isolate(policy: FailurePolicy) -> bool
     }
 }
 
-// What the policy of the component at p means. Corruption and exhausted recovery both ask here, so that they cannot differ.
-// Where it gates nothing the machine stays as it is, and the caller says what happens.
+// The gate that the policy of the component at p means, and none for Required. Corruption and exhausted recovery both ask
+// `gates_failed` and then this, so that they cannot differ.
 pub fn gate_by_policy(chain: Chain, w: Work, p: usize) -> Work
     requires { ⌜ (Sane chain w) × (p < size chain) ⌝ }
     ensures { λ r. ⌜ Does (size chain) w (gateByPolicy (entries chain) p stay stay) r ⌝ }
@@ -129,7 +129,7 @@ pub fn handle_corruption(
     let mut v = w;
     if !machine::is_gated(rot, n, p) {
         let policy = chain.policy_at(p);
-        if !may_isolate(policy) {
+        if !gates_failed(policy) {
             return start_recovery(chain, w, id, p, situation);
         }
         v = gate_by_policy(chain, w, p);

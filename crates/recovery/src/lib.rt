@@ -62,7 +62,7 @@ fn exhaust_recovery(chain: Chain, w: Work, id: ComponentId, p: usize) -> Work
     ensures { λ r. ⌜ Does (size chain) w (exhausted (entries chain) id) r ⌝ }
 {
     let policy = chain.policy_at(p);
-    if corruption::may_isolate(policy) {
+    if corruption::gates_failed(policy) {
         let v = corruption::gate_by_policy(chain, w, p);
         return start_over(chain, v, id, p);
     }

@@ -20,11 +20,20 @@ use Rattle.machine.specs.View.{Core, stay}
 use Rattle.numbered.specs.Numbered.{numbered, numberedBy}
 use Rattle.rot.specs.Step.{rule, inChain, stepOf}
 use Rattle.rot.specs.Whom.{whom}
-use Rattle.rot.specs.Idle.{idle}
+use Rattle.rot.specs.Idle.{idle, outside, idleBy}
 use Rattle.rot.proofs.Numbers.{numbers-right}
 
 -- ---- Nothing comes of it
 
+-- By a table of places.
+module _ (places : List ℕ) (n : ℕ) (s : State) (e : Event) where
+  pub by-no-rule : ruleNo s e ≡ 0 → true ≡ idleBy places n s e
+  by-no-rule z = sym (ap (λ (t : Bool). pick t true (outside places n (named e))) (eq-eqb (ruleNo s e) 0 z))
+
+  pub by-rule : (o : OptionId) → (ruleNo s e ≡ 0 → ⊥) → named e ≡ o → outside places n o ≡ idleBy places n s e
+  by-rule o z q = sym (λ t. pick (ne-eqb (ruleNo s e) 0 z t) true (outside places n (q t)))
+
+-- By the chain.
 module _ (ch : List Component) (s : State) (e : Event) where
   pub idle-no-rule : ruleNo s e ≡ 0 → true ≡ idle ch s e
   idle-no-rule z = either (inChain ch (named e))
@@ -69,10 +78,10 @@ module _ (ch : List Component) (max : ℕ) (c : Core) (e : Event) where
       either true h = ap (λ (k : ℕ). numberedBy ch max e (whom (idOf 0) (named e)) k c) (sym (eqb-true (ruleNo (c .state) e) 0 h)) ∙ numbers-right ch max (idOf 0) c e
       either false h = refl
 
-  -- j stands in where the event names no component; it is one of the chain.
-  pub step-inside : (j : ComponentId) → position ch j < length ch → (i : ComponentId) (k : ℕ) → i ≡ whom j (named e) → k ≡ ruleNo (c .state) e → position ch i < length ch → numberedBy ch max e i k c ≡ stepOf ch max c e
+  -- j stands in where the event names no component.
+  pub step-inside : (j i : ComponentId) (k : ℕ) → i ≡ whom j (named e) → k ≡ ruleNo (c .state) e → position ch i < length ch → numberedBy ch max e i k c ≡ stepOf ch max c e
   unfolding stepOf
-  step-inside j here i k q z h =
+  step-inside j i k q z h =
       (λ t. numberedBy ch max e (q t) (z t) c)
       ∙ numbers-right ch max j c e
       ∙ sym (ap (λ (t : Bool). pick t (rule ch max c e) (stay c)) (inside (named e) (omega (arith, ap (position ch) q))))

@@ -6,7 +6,7 @@ ghost use Rattle.components.specs.Chain.{idAt};
 ghost use Rattle.chain.specs.Tables.{entries, size, Charted};
 ghost use Rattle.entry.specs.Premise.{Sane};
 ghost use Rattle.rot.specs.Whom.{whom};
-ghost use Rattle.rot.specs.Idle.{idle};
+ghost use Rattle.rot.specs.Idle.{idle, idleBy};
 ghost use Rattle.rot.specs.Stepped.{bare, Stepped};
 use chain::Chain;
 use machine::Rot;
@@ -29,10 +29,11 @@ fn about(chain: Chain, event: Event) -> ComponentId
     }
 }
 
-// Does nothing come of the event? `positions` is the table by id of a chain of `n` components. Whoever keeps a machine in parts
-// asks this first: a step copies them, and this copies the table alone.
+// Does nothing come of the event whatever the machine is: no rule in this state, or an id outside the chain? `positions` is
+// the table by id of a chain of `n` components. Whoever keeps a machine in parts asks this first: a step copies them, and this
+// copies the table alone.
 pub fn idles(positions: [u8; 256], n: usize, state: State, event: Event) -> bool
-    ensures { λ r. ⌜ ((c : Chain) → c .positions ≡ positions → Charted c → n ≡ size c → r ≡ idle (entries c) state event) ⌝ }
+    ensures { λ r. ⌜ (r ≡ idleBy positions n state event) × ((c : Chain) → c .positions ≡ positions → Charted c → n ≡ size c → r ≡ idle (entries c) state event) ⌝ }
 {
     if table::rule_number(state, event) == 0 {
         return true;
@@ -48,9 +49,9 @@ pub fn idles(positions: [u8; 256], n: usize, state: State, event: Event) -> bool
 }
 
 // One event on a machine between events: what it becomes, with the event's effects in the sink, and nothing of what the sink
-// held before. It is handed in, since filling a new one would cost more than many a rule. There are at most 2N+1 effects, so
-// that none is ever dropped. An event of which nothing comes is answered at once: each function that the machine passes
-// through copies it.
+// held before. It is handed in, since filling a new one would cost more than most rules. There are at most 2N+1 effects, so
+// that none is ever dropped. Where nothing comes of the event the answer is given at once: each function that the machine
+// passes through copies it.
 pub fn step(chain: Chain, max_retry: u8, state: State, rot: Rot, sink: Sink, event: Event) -> Work
     requires { ⌜ Sane chain (bare state rot) ⌝ }
     ensures { λ r. ⌜ Stepped chain «max_retry» (bare state rot) event r ⌝ }

@@ -17,7 +17,7 @@ use Rattle.store.specs.declared.Status.{Status}
 use Rattle.store.specs.Sink.{effectOf, slotOf, held, withEffect, effectAt}
 use Rattle.store.specs.Retry.{noRetry}
 
--- A sink of the length 0 holds nothing.
+-- A sink of length 0 holds nothing.
 pub none-held : (s : Sink) → s .len ≡ 0 → held s ≡ []
 unfolding held
 none-held s z = ap (λ (n : ℕ). map effectOf (take n (s .effects))) z

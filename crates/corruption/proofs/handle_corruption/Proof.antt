@@ -8,7 +8,7 @@ use Rattle.machine.specs.declared.Work.{Work}
 use Rattle.machine.specs.Status.{statusAt, iso}
 use Rattle.machine.specs.View.{stay, statusesOf, Fit}
 use Rattle.machine.specs.Acts.{Does}
-use Rattle.corruption.specs.Corruption.{mayIsolate, recover, gateByPolicy}
+use Rattle.corruption.specs.Corruption.{gatesFailed, recover, gateByPolicy}
 use Rattle.corruption.specs.Cases.{follows, before}
 use Rattle.entry.proofs.Now.{gated-now}
 use Rattle.corruption.proofs.Outcomes.{gated-then, ungated-then}
@@ -32,8 +32,8 @@ tested c t e =
 policy-at-requires : tie.Need-policy-at-requires
 policy-at-requires c κs = search needs
 
-may-isolate-requires : tie.Need-may-isolate-requires
-may-isolate-requires c κs = search needs
+gates-failed-requires : tie.Need-gates-failed-requires
+gates-failed-requires c κs = search needs
 
 start-recovery-requires : tie.Need-start-recovery-requires
 start-recovery-requires c κs = search needs
@@ -45,7 +45,7 @@ returns c =
     let s = gated .before .before .before in
     let ch = entries (s .args .chain) in
     rw (tested gated _ (not-true _ (asked .before .before .if1 .taken)))
-    (ungated-then ch (s .args .p) (position ch (s .args .id)) _ (recover ch (before (s .args .situation)) (s .args .id)) (follows (s .args .situation) ch) (s .pre .here) (asked .may-isolate .ensures ∙ ap mayIsolate (asked .before .policy-at .ensures)) (not-true _ (c .before .if2 .taken)) (c .start-recovery .ensures))
+    (ungated-then ch (s .args .p) (position ch (s .args .id)) _ (recover ch (before (s .args .situation)) (s .args .id)) (follows (s .args .situation) ch) (s .pre .here) (asked .gates-failed .ensures ∙ ap gatesFailed (asked .before .policy-at .ensures)) (not-true _ (c .before .if2 .taken)) (c .start-recovery .ensures))
 
 gate-by-policy-requires : tie.Need-gate-by-policy-requires
 gate-by-policy-requires c κs = search needs
@@ -71,7 +71,7 @@ returns-2 c =
     ⊎-elim
     (λ w.
     rw (tested gated _ (not-true _ (w .0 .taken)))
-    (gated-then ch (s .args .p) (position ch (s .args .id)) _ (recover ch (before (s .args .situation)) (s .args .id)) (follows (s .args .situation) ch) (s .pre .here) (w .2 .ensures ∙ ap mayIsolate (w .1 .ensures)) (not-false _ (w .3 .left))
+    (gated-then ch (s .args .p) (position ch (s .args .id)) _ (recover ch (before (s .args .situation)) (s .args .id)) (follows (s .args .situation) ch) (s .pre .here) (w .2 .ensures ∙ ap gatesFailed (w .1 .ensures)) (not-false _ (w .3 .left))
     (subst (λ (v : Work). Does n (s .args .w) (gateByPolicy ch (s .args .p) stay stay) v) (sym (w .5)) (w .4 .ensures)) (c .follow .ensures)))
     (λ w. rw (tested gated _ (not-false _ (w .0 .left))) (subst (λ (v : Work). Does n v (follows (s .args .situation) ch) (c .follow .result)) (w .1) (c .follow .ensures)))
     (c .before .if1 .came)
@@ -83,7 +83,7 @@ handle-corruption-spec =
     count-requires
     is-gated-requires
     policy-at-requires
-    may-isolate-requires
+    gates-failed-requires
     start-recovery-requires
     returns
     gate-by-policy-requires

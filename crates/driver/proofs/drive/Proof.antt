@@ -64,6 +64,9 @@ loop-of c = c .before .before .before .before .before
 abbrev slot-of : tie.Joined1 Inv-loop μ-loop → tie.After-slot Inv-loop μ-loop
 slot-of c = c .before .before .before
 
+abbrev made-of : tie.After-record-line Inv-loop μ-loop → tie.Joined1 Inv-loop μ-loop
+made-of c = c .before .before .before .before .before .before .before .before .before
+
 -- The machine before the step, and after it.
 abbrev old : tie.At-loop Inv-loop μ-loop → Machine
 old c = joined (start-of c .args .machine) (c .loop .state) (c .loop .rot) (c .loop .batch) (c .loop .d)
@@ -163,7 +166,7 @@ made c =
     let full : Sink → Type 0 = λ b. length (held b) ≡ b .len in
     ⊎-elim
     (λ w.
-    let idle = w .4 .ensures (start .args .machine .chain) refl (inv .whole .sane .charted) (count-of (loop-of slot) .count .ensures .0) in
+    let idle = w .4 .ensures .1 (start .args .machine .chain) refl (inv .whole .sane .charted) (count-of (loop-of slot) .count .ensures .0) in
     let t = took (c .before) (w .0 .taken) (w .2 .result) (w .2 .ensures) _ (idle-stepped (m .chain) (m .«max_retry») (loop .state) (loop .rot) (w .2 .result) (inv .whole .sane .fit) (sym idle ∙ w .5 .taken) (record { effects = loop .batch .effects; len = 0 }) refl) (w .3 .result) (w .3 .ensures) in
     (becomes-is (t .0) (λ j. joined (start .args .machine) (w .6 j) (w .7 j) (w .8 j) (w .9 j)), subst full (sym (w .8)) (t .1)))
     (⊎-elim
@@ -212,11 +215,11 @@ record-line-requires c κs = search needs
 
 -- ---- The loop goes on, and ends
 
-carried : (c : tie.After-record-line Inv-loop μ-loop) → let loop = loop-of (slot-of (c .before .before .before .before .before .before .before .before .before)) in let start = start-of loop in let v = new (c .before .before .before .before .before .before .before .before .before) in let append = c .before .before .before .append in
-    ((b : List ℕ) → b ≡ written (loop .loop .out) (c .before .before .before .before .before .before .before .before .before .before .before .before .before .before .next-step .result .cursor .written) (textOf (c .before .before .before .before .before .before .if3 .line)) → Going (start .args .sheet .now) (start .args .out .now) (start .args .limit) (start .args .machine) b v (c .record-line .result))
+carried : (c : tie.After-record-line Inv-loop μ-loop) → let loop = loop-of (slot-of (made-of c)) in let start = start-of loop in let v = new (made-of c) in
+    ((b : List ℕ) → b ≡ written (loop .loop .out) (slot-of (made-of c) .before .before .next-step .result .cursor .written) (textOf (c .before .before .before .before .before .before .if3 .line)) → Going (start .args .sheet .now) (start .args .out .now) (start .args .limit) (start .args .machine) b v (c .record-line .result))
     × (measure (start .args .sheet .now) (start .args .limit) (start .args .machine) v (c .record-line .result) < measure (start .args .sheet .now) (start .args .limit) (start .args .machine) (old loop) (loop .loop .c))
 carried c =
-    let slot = slot-of (c .before .before .before .before .before .before .before .before .before) in
+    let slot = slot-of (made-of c) in
     let a = loop-of slot in
     let start = start-of a in
     let loop = a .loop in
@@ -226,7 +229,7 @@ carried c =
     let append = c .before .before .before .append in
     let count = count-of a .count in
     carries (start .args .sheet .now) (start .args .out .now) (start .args .limit) (start .args .machine) (loop .out) (old a) (loop .c) inv (slot .before .before .before .before .loop-test .taken) (count .result) (count .ensures .0)
-    (due .result) (due-now (old a) (inv .whole) (inv .full) (due .result) (due .ensures)) (plan .result) (plan .ensures) (new (c .before .before .before .before .before .before .before .before .before)) (made (c .before .before .before .before .before .before .before .before .before) .0) (made (c .before .before .before .before .before .before .before .before .before) .1) (c .before .before .before .before .before .before .if3 .line) (told (c .before .before .before .before .before .before)) (append .result) (c .record-line .result) (c .record-line .ensures) (append .ensures .0)
+    (due .result) (due-now (old a) (inv .whole) (inv .full) (due .result) (due .ensures)) (plan .result) (plan .ensures) (new (made-of c)) (made (made-of c) .0) (made (made-of c) .1) (c .before .before .before .before .before .before .if3 .line) (told (c .before .before .before .before .before .before)) (append .result) (c .record-line .result) (c .record-line .ensures) (append .ensures .0)
 
 loop-less : tie.Need-loop-less Inv-loop μ-loop
 loop-less c = carried c .1

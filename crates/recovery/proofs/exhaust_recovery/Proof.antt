@@ -7,7 +7,7 @@ use Rattle.model.specs.declared.Event.the-variants.{RecoveryFailed}
 use Rattle.model.specs.declared.Effect.the-variants.{ReportRecoveryFailed, Emit}
 use Rattle.machine.proofs.Runs.{ran-none, ran-say}
 use Rattle.recovery.specs.Recovery.{startOver, giveUp}
-use Rattle.corruption.specs.Corruption.{mayIsolate}
+use Rattle.corruption.specs.Corruption.{gatesFailed}
 use Rattle.corruption.proofs.Outcomes.{gated-then, ungated-then}
 use borrow.Author.Needs.{needs}
 use Rattle.recovery.proofs.exhaust_recovery.Statement.{statement}
@@ -16,12 +16,12 @@ use Rattle.recovery.proofs.exhaust_recovery.Tie as tie
 policy-at-requires : tie.Need-policy-at-requires
 policy-at-requires c κs = search needs
 
-may-isolate-requires : tie.Need-may-isolate-requires
-may-isolate-requires c κs = search needs
+gates-failed-requires : tie.Need-gates-failed-requires
+gates-failed-requires c κs = search needs
 
 -- What the test says of the component's policy.
-told : (c : tie.After-may-isolate) → let s = c .before .before in c .may-isolate .result ≡ mayIsolate (policyAt (entries (s .args .chain)) (s .args .p))
-told c = c .may-isolate .ensures ∙ ap mayIsolate (c .before .policy-at .ensures)
+told : (c : tie.After-gates-failed) → let s = c .before .before in c .gates-failed .result ≡ gatesFailed (policyAt (entries (s .args .chain)) (s .args .p))
+told c = c .gates-failed .ensures ∙ ap gatesFailed (c .before .policy-at .ensures)
 
 gate-by-policy-requires : tie.Need-gate-by-policy-requires
 gate-by-policy-requires c κs = search needs
@@ -55,4 +55,4 @@ returns-2 c =
 pub exhaust-recovery-spec : {M : Type 1} → statement M
 exhaust-recovery-spec =
     tie.close
-    (tie.spec policy-at-requires may-isolate-requires gate-by-policy-requires start-over-requires returns say-requires say-requires-2 returns-2)
+    (tie.spec policy-at-requires gates-failed-requires gate-by-policy-requires start-over-requires returns say-requires say-requires-2 returns-2)

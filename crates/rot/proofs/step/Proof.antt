@@ -1,5 +1,5 @@
 -- `step` meets its contract: the table of numbers is the table of rules, for whomever the event is about, and at
--- most 2N+1 effects fit into a sink of the length 0, so that it holds them all.
+-- most 2N+1 effects fit into a sink of length 0, so that it holds them all.
 use mathlib.Core.Path.{_≡_, refl, sym, ap, _∙_}
 use Prim.Native.Nat.{_≤_, _<_}
 use mathlib.Core.List.{List, _++_}
@@ -48,7 +48,7 @@ some s = omega (arith, all-kept (s .args .chain) (entries-full s) (s .pre .sound
 first : (s : tie.Start) → position (entries (s .args .chain)) (idAt (entries (s .args .chain)) 0) < length (entries (s .args .chain))
 first s = omega (arith, some s, own-place (s .args .chain .list .len) (entries (s .args .chain)) (s .pre .sound) 0 (some s))
 
--- What is run on a sink of the length 0 holds all that the definition says.
+-- What is run on a sink of length 0 holds all that the definition says.
 stepped : (s : tie.Start) (k : Sink) → k .len ≡ 0 → length (k .effects) ≡ 512 → (r : Work)
     → Ran (size (s .args .chain)) (record { state = s .args .state; rot = s .args .rot; sink = k }) (outcome (s .args .chain) (s .args .max-retry) (bare (s .args .state) (s .args .rot)) (s .args .event)) r
     → Stepped (s .args .chain) (s .args .max-retry) (bare (s .args .state) (s .args .rot)) (s .args .event) r
@@ -78,7 +78,7 @@ idles-requires c κs = search needs
 answered : (c : tie.After-idles) → let a = c .before .before .before .args in c .idles .result ≡ idle (entries (a .chain)) (a .state) (a .event)
 answered c =
     let s = c .before .before .before in
-    c .idles .ensures (s .args .chain) refl (s .pre .charted) (c .before .before .count .ensures .0)
+    c .idles .ensures .1 (s .args .chain) refl (s .pre .charted) (c .before .before .count .ensures .0)
 
 returns : tie.Need-returns
 returns c =
@@ -120,7 +120,7 @@ returns-2 c =
     let number = c .before .rule-number in
     stepped s _ refl (sink-full s) _
     (ran-as
-    (step-inside ch (a .max-retry) (coreOf (size (a .chain)) (bare (a .state) (a .rot))) (a .event) (idAt ch 0) (first s) (who .about .result) (number .result) (who .about .ensures) (number .ensures .0) (within who))
+    (step-inside ch (a .max-retry) (coreOf (size (a .chain)) (bare (a .state) (a .rot))) (a .event) (idAt ch 0) (who .about .result) (number .result) (who .about .ensures) (number .ensures .0) (within who))
     (c .apply .ensures))
 
 pub step-spec : {M : Type 1} → statement M
