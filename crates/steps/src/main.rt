@@ -35,15 +35,11 @@ use machine::Rot;
 use machine::Work;
 use model::BootFailureKind;
 use model::Component;
-use model::ComponentAttrs;
 use model::ComponentId;
-use model::ComponentKind;
 use model::Effect;
 use model::Event;
-use model::FailurePolicy;
 use model::OptionId;
 use model::PowerOnResult;
-use model::RegionId;
 use model::State;
 use pending::Pending;
 use settling::Dispatch;
@@ -77,18 +73,6 @@ struct Row {
     d: u64,
 }
 
-// The number with one digit more, or the largest number where it does not fit.
-fn with_digit(n: u64, d: u64) -> u64 {
-    if 1844674407370955161 < n {
-        return 18446744073709551615;
-    }
-    let tens = n * 10;
-    if 18446744073709551615 - tens < d {
-        return 18446744073709551615;
-    }
-    tens + d
-}
-
 // The number at place i, and 0 past the end.
 fn number_at(ns: &[u64], i: usize) -> u64 {
     if i < ns.len() { ns[i] } else { 0 }
@@ -117,45 +101,16 @@ fn id_or_none(n: u64) -> OptionId {
     OptionId::None
 }
 
-fn kind_of(n: u64) -> ComponentKind {
-    if n == 0 {
-        ComponentKind::Active
-    } else {
-        ComponentKind::Passive
-    }
-}
-
-fn policy_of(n: u64) -> FailurePolicy {
-    if n == 0 {
-        return FailurePolicy::Required;
-    }
-    if n == 1 {
-        return FailurePolicy::Isolable;
-    }
-    FailurePolicy::Cascading
-}
-
 fn component_at(ns: &[u64], i: usize) -> Component
     requires { ⌜ i < 4096 ⌝ }
 {
-    let id = ComponentId::new(byte_at(ns, i));
-    let region = RegionId::new(byte_at(ns, i + 3));
-    let plain = ComponentAttrs::plain(
-        kind_of(number_at(ns, i + 1)),
-        policy_of(number_at(ns, i + 2)),
-    );
-    let attrs = plain.with_region(region);
-    let on = id_or_none(number_at(ns, i + 4));
-    match on {
-        OptionId::None => Component {
-            id: id,
-            attrs: attrs,
-        },
-        OptionId::Some(d) => Component {
-            id: id,
-            attrs: attrs.with_depends_on(d),
-        },
-    }
+    cases::component_of(
+        number_at(ns, i),
+        number_at(ns, i + 1),
+        number_at(ns, i + 2),
+        number_at(ns, i + 3),
+        number_at(ns, i + 4),
+    )
 }
 
 // The entries whose number stands at place i. Of a list with more than 255, 256 are handed in, so that it is refused as
@@ -772,7 +727,7 @@ fn feed(line: Line, chunk: &[u8]) -> Line
             }
             at.number = 0;
         } else {
-            at.number = with_digit(at.number, (b % 48) as u64);
+            at.number = cases::with_digit(at.number, (b % 48) as u64);
         }
         if b == 10 {
             kept = end_line(&at.numbers, at.count, kept);

@@ -5,12 +5,6 @@
 use components::ComponentList;
 use libc::STDIN_FILENO;
 use libc::STDOUT_FILENO;
-use model::Component;
-use model::ComponentAttrs;
-use model::ComponentId;
-use model::ComponentKind;
-use model::FailurePolicy;
-use model::RegionId;
 
 // The line so far: its entries, the numbers of the entry at hand behind the length, and the number at hand.
 struct Line {
@@ -26,55 +20,6 @@ fn new_line() -> Line {
         fields: [0u64; 6],
         field: 0,
         number: 0,
-    }
-}
-
-// The number with one digit more, or the largest number where it does not fit.
-fn with_digit(n: u64, d: u64) -> u64 {
-    if 1844674407370955161 < n {
-        return 18446744073709551615;
-    }
-    let tens = n * 10;
-    if 18446744073709551615 - tens < d {
-        return 18446744073709551615;
-    }
-    tens + d
-}
-
-fn kind_of(n: u64) -> ComponentKind {
-    if n == 0 {
-        ComponentKind::Active
-    } else {
-        ComponentKind::Passive
-    }
-}
-
-fn policy_of(n: u64) -> FailurePolicy {
-    if n == 0 {
-        return FailurePolicy::Required;
-    }
-    if n == 1 {
-        return FailurePolicy::Isolable;
-    }
-    FailurePolicy::Cascading
-}
-
-fn component_of(fields: [u64; 6]) -> Component {
-    let id = ComponentId::new((fields[1] % 256) as u8);
-    let region = RegionId::new((fields[4] % 256) as u8);
-    let plain = ComponentAttrs::plain(kind_of(fields[2]), policy_of(fields[3]));
-    let attrs = plain.with_region(region);
-    let dependency = fields[5];
-    if dependency < 256 {
-        let on = ComponentId::new((dependency % 256) as u8);
-        return Component {
-            id: id,
-            attrs: attrs.with_depends_on(on),
-        };
-    }
-    Component {
-        id: id,
-        attrs: attrs,
     }
 }
 
@@ -102,7 +47,13 @@ fn end_number(line: Line) -> Line {
     }
     let fields = next.fields;
     let list = line.list;
-    next.list = list.push(component_of(fields));
+    next.list = list.push(cases::component_of(
+        fields[1],
+        fields[2],
+        fields[3],
+        fields[4],
+        fields[5],
+    ));
     next.field = 1;
     next
 }
@@ -117,7 +68,7 @@ fn feed(line: Line, chunk: &[u8]) -> Line {
         if b < 48 || 57 < b {
             at = end_number(at);
         } else {
-            at.number = with_digit(at.number, (b % 48) as u64);
+            at.number = cases::with_digit(at.number, (b % 48) as u64);
         }
         if b == 10 {
             let list = at.list;
