@@ -1,4 +1,6 @@
 // The walk's next component, and what is done to every component: quiescing, clearing the retry counts.
+#![tactic(auto)]
+
 ghost use Rattle.std.specs.Prelude.{◌≤◌, ◌<◌};
 ghost use Rattle.chain.specs.Tables.{entries, size};
 ghost use Rattle.machine.specs.View.{Fit};

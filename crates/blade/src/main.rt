@@ -1,5 +1,7 @@
 // A worked example of the step calls: a blade of four cards boots, recovers a card, isolates two and takes an update.
 // Every effect is printed as it is handed out, and the state when its event is done.
+#![tactic(auto)]
+
 ghost use Rattle.std.specs.Prelude.{◌≡◌, ◌≤◌};
 ghost use Rattle.settling.specs.View.{Valid};
 

@@ -1,4 +1,6 @@
 // The components that a cascade gates, in order.
+#![tactic(auto)]
+
 ghost use Rattle.std.specs.Prelude.{[], ◌++◌, ◌≡◌, ◌+◌, ◌≤◌, ◌<◌, length};
 ghost use Rattle.components.specs.Chain.{Sound};
 ghost use Rattle.chain.specs.Tables.{entries, Charted};

@@ -1,4 +1,6 @@
 // What the two test programs read alike: a number, digit by digit, and a component, from five numbers.
+#![tactic(auto)]
+
 ghost use Rattle.std.specs.Prelude.{◌≡◌};
 ghost use Rattle.cases.specs.Numbers.{with_digit, kind_of, policy_of, component_of};
 

@@ -1,4 +1,6 @@
 // A chain: an accepted list with the two tables that are worked out of it once, so that no rule searches it again.
+#![tactic(auto)]
+
 ghost use Rattle.std.specs.Prelude.{◌≡◌, ◌≤◌, ◌<◌, List, length};
 ghost use Rattle.components.specs.Chain.{entries_of, position, at, id_at};
 ghost use Rattle.chain.specs.Links.{place, parent, kind_at, policy_at};

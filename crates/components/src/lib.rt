@@ -1,4 +1,6 @@
 // The list of components, and the verdict on it: a port of what the source's model.rs does to make a chain.
+#![tactic(auto)]
+
 ghost use Rattle.std.specs.Prelude.{◌≡◌, ◌≤◌, length};
 ghost use Rattle.components.specs.Chain.{entries_of, no_entries, pushed, position, new_test, link_test, test, first, refuses, verdict_of, answer_of};
 

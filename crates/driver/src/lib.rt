@@ -1,4 +1,6 @@
 // A run of a sheet, in small steps: what the next line or the machine does, and then the line that it writes.
+#![tactic(auto)]
+
 ghost use Rattle.std.specs.Prelude.{◌≡◌, List, ◌∷◌, ℕ, ◌+◌, ◌<◌, leb, ltb, length, drop};
 ghost use Rattle.model.specs.Vocabulary.{pick};
 ghost use Rattle.components.specs.Chain.{id_at};

@@ -1,4 +1,6 @@
 // Effects as lines of a transcript.
+#![tactic(auto)]
+
 ghost use Rattle.std.specs.Prelude.{◌≡◌, ◌∷◌, ◌≤◌, length};
 ghost use Rattle.text.specs.Text.{bytes, ◌⇥◌, line, decimal};
 ghost use Rattle.text.specs.Lines.{text_of, Pushed};

@@ -1,4 +1,6 @@
 // Entering a state. Each function takes the machine at work by value and hands it back; the effects go into its sink in order.
+#![tactic(auto)]
+
 ghost use Rattle.std.specs.Prelude.{◌≤◌};
 ghost use Rattle.chain.specs.Tables.{entries, size};
 ghost use Rattle.machine.specs.Acts.{Does};

@@ -1,4 +1,6 @@
 // Events read from their text: a name, then its fields, each after one tab.
+#![tactic(auto)]
+
 ghost use Rattle.std.specs.Prelude.{◌≡◌};
 ghost use Rattle.events.specs.Read.{failure_event, plain_event, fault_event, id_event, power_good, boot_failed, boot_fields, id_fields, field_event, event_of};
 

@@ -1,4 +1,6 @@
 // The fields of a line: parts of a text between tabs, names and decimals among them.
+#![tactic(auto)]
+
 ghost use Rattle.std.specs.Prelude.{◌≡◌};
 ghost use Rattle.fields.specs.Fields.{place_of, same_bytes, before, after, digits_from, number_of};
 

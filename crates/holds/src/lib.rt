@@ -1,4 +1,6 @@
 // Holds: the gate at one position, and at each position of an order.
+#![tactic(auto)]
+
 ghost use Rattle.std.specs.Prelude.{ℕ, ◌≤◌, ◌<◌, get_or};
 ghost use Rattle.chain.specs.Tables.{entries, size};
 ghost use Rattle.cascade.specs.Order.{listed};

@@ -1,6 +1,8 @@
 // The isolated positions of a chain, as the four words from which the C side drives the reset
 // lines: position p, from 0, is bit p mod 64, lowest first, of word p / 64. A chain has at most 255
 // components, so each has a bit. The contracts speak of `flags s`, the list of all 256 bits.
+#![tactic(auto)]
+
 ghost use Rattle.std.specs.Prelude.{◌≡◌, true, false, [], ◌∷◌, ◌≤◌, get_or, set, replicate};
 ghost use Rattle.isolated.specs.Flags.{flags, next_free, trues};
 

@@ -1,4 +1,6 @@
 // The lines of a sheet, each read from its bytes without the byte 10 that ends it.
+#![tactic(auto)]
+
 ghost use Rattle.std.specs.Prelude.{◌≡◌};
 ghost use Rattle.lines.specs.Read.{card_row, with_dependency, with_region, with_policy, with_kind, card_of, retry_of, begin_row, then_row, answer_of, row_of};
 

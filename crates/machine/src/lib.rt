@@ -1,4 +1,6 @@
 // The machine at work: what is kept of each component, and one part of it read or changed.
+#![tactic(auto)]
+
 ghost use Rattle.std.specs.Prelude.{◌≡◌, ◌≤◌, ◌<◌};
 ghost use Rattle.isolated.specs.Flags.{flags, flags_of};
 ghost use Rattle.store.specs.Sink.{with_effect};

@@ -1,5 +1,7 @@
 // The component model, a port of the types of the source's model.rs: identifiers, attributes, events, effects, states.
 // Names are the source's.
+#![tactic(auto)]
+
 ghost use Rattle.std.specs.Prelude.{◌≡◌};
 ghost use Rattle.model.specs.Vocabulary.{id_of, region_of, plain_attrs, in_region, depending_on, named};
 

@@ -1,4 +1,6 @@
 // The rules by their numbers in the table.
+#![tactic(auto)]
+
 ghost use Rattle.chain.specs.Tables.{entries, size};
 ghost use Rattle.machine.specs.Acts.{Does};
 ghost use Rattle.entry.specs.Premise.{Placed};

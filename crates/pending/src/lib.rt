@@ -1,4 +1,6 @@
 // The events that wait to be settled in one dispatch: the source's queue of PENDING_CAP.
+#![tactic(auto)]
+
 ghost use Rattle.std.specs.Prelude.{◌≡◌, ◌++◌, ◌≤◌, length, take, drop};
 ghost use Rattle.pending.specs.Queue.{events, no_events, first_of, rest, at_back, latched, emits};
 

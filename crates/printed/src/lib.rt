@@ -1,4 +1,6 @@
 // States and statuses as lines of a transcript.
+#![tactic(auto)]
+
 ghost use Rattle.std.specs.Prelude.{◌≡◌, ◌∷◌};
 ghost use Rattle.text.specs.Text.{bytes, ◌⇥◌, line, decimal};
 ghost use Rattle.text.specs.Lines.{text_of, Pushed};

@@ -1,4 +1,6 @@
 // What the program `replay` prints: all of it stands here, so that the program only reads, calls and writes.
+#![tactic(auto)]
+
 ghost use Rattle.text.specs.Lines.{text_of, Built};
 ghost use Rattle.printout.specs.Program.{refusal_line, printed_of, Prints, Lengthened};
 

@@ -1,4 +1,6 @@
 // Whole sheets: line by line from the bytes, the first bad line, max_retry and the components.
+#![tactic(auto)]
+
 ghost use Rattle.std.specs.Prelude.{◌≡◌, ◌<◌, length, []};
 ghost use Rattle.components.specs.Chain.{pushed};
 ghost use Rattle.reader.specs.Read.{part_after, is_wrong, is_opening, retry_after, is_card, card_before, pushed_all, Reads, Whole};

@@ -1,5 +1,7 @@
 // Recovery: another try, or none any more. Each function takes the machine at work by value and hands it back; the effects
 // go into its sink in order.
+#![tactic(auto)]
+
 ghost use Rattle.std.specs.Prelude.{◌≡◌};
 ghost use Rattle.chain.specs.Tables.{entries, size};
 ghost use Rattle.machine.specs.Status.{bump};

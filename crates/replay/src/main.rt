@@ -1,4 +1,6 @@
 // Reads a sheet of at most 65,536 bytes on standard input, or one byte more of a longer input, and prints what it comes to.
+#![tactic(auto)]
+
 fn main() {
     let mut input = [0u8; 65537];
     let n = io::read_full(0, &mut input);

@@ -1,4 +1,6 @@
 // The step: one event, by the table of rules.
+#![tactic(auto)]
+
 ghost use Rattle.std.specs.Prelude.{◌≡◌, ◌<◌};
 ghost use Rattle.model.specs.Vocabulary.{named};
 ghost use Rattle.components.specs.Chain.{id_at};

@@ -1,2 +1,3 @@
 // Theorems over the definitions of verdicts, step calls and runs: specs/ says them, proofs/ proves them. There are no
 // functions here.
+#![tactic(auto)]

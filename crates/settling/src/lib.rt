@@ -1,4 +1,6 @@
 // Settling: the machine between and within calls, one turn of it, and turns up to the next effect or the end.
+#![tactic(auto)]
+
 ghost use Rattle.std.specs.Prelude.{◌≡◌, true, false, [], ℕ, ◌+◌, ◌<◌, drop};
 ghost use Rattle.pending.specs.Queue.{emits, rest};
 ghost use Rattle.settling.specs.Settle.{waiting_is, left_is, failed_is, latch, fail, enqueue, replied, hand_out, front_taken, turn_of, next_event, settle};

@@ -1,4 +1,6 @@
 // What the board calls: `check` and `run` of a sheet, and the same two for C.
+#![tactic(auto)]
+
 ghost use Rattle.std.specs.Prelude.{◌≡◌, length};
 ghost use Rattle.sheet.specs.Sheet.{check_of, run_of, numbers_of, RunGives};
 

@@ -1,5 +1,7 @@
 // The step calls: `new` makes a machine for a chain, `begin` begins an event, `reply` answers the effect that waits. The
 // machine goes in and comes out by value; nothing is kept elsewhere.
+#![tactic(auto)]
+
 ghost use Rattle.std.specs.Prelude.{◌≡◌, map, length};
 ghost use Rattle.components.specs.Chain.{entries_of, verdict_of};
 ghost use Rattle.components.specs.declared.Verdict.TheVariants.{Accepted};

@@ -15,6 +15,8 @@
 // is answered with 99.
 //
 // Any byte that is no digit ends a number. A number out of its range is brought into it, so that every line has an answer.
+#![tactic(auto)]
+
 ghost use Rattle.std.specs.Prelude.{◌≡◌, false, ◌-◌, ◌≤◌, ◌<◌, drop, replicate};
 ghost use Rattle.isolated.specs.Flags.{flags};
 ghost use Rattle.machine.specs.View.{Fit};

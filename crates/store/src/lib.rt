@@ -1,6 +1,8 @@
 // What the state machine writes as it works: the effects that an event gives rise to, in order, and the status of each
 // component. `emit` and `clear_retries` change what they are lent, as in the source. Whoever works by value calls
 // `emitted` and `cleared`.
+#![tactic(auto)]
+
 ghost use Rattle.std.specs.Prelude.{◌≡◌, map};
 ghost use Rattle.store.specs.Sink.{empty_sink, with_effect, effect_at};
 ghost use Rattle.store.specs.Retry.{no_retry};

@@ -1,4 +1,6 @@
 // The table of rules, 7 states by 18 events, and what the rules read of an event.
+#![tactic(auto)]
+
 ghost use Rattle.std.specs.Prelude.{◌≡◌, ◌<◌};
 ghost use Rattle.table.specs.Table.{state_no, event_no, rule_no};
 ghost use Rattle.table.specs.Payload.{power_of, boot_of};

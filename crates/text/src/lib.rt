@@ -1,4 +1,6 @@
 // Lines of bytes: one is built in a small array, and copied whole into a lent buffer.
+#![tactic(auto)]
+
 ghost use Rattle.std.specs.Prelude.{◌≡◌, List, [], ◌∷◌, ◌++◌, length};
 ghost use Rattle.text.specs.Text.{◌⇥◌, line, decimal};
 ghost use Rattle.text.specs.Lines.{text_of, Pushed, Built, written, room_after};

@@ -1,5 +1,7 @@
 // Power, attestation and updates: the rules that decide on no one component. Each function takes the machine at work by
 // value and hands it back; the effects go into its sink in order.
+#![tactic(auto)]
+
 ghost use Rattle.chain.specs.Tables.{entries, size};
 ghost use Rattle.machine.specs.Acts.{Does};
 ghost use Rattle.entry.specs.Premise.{Sane, DoesAll};

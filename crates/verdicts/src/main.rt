@@ -2,6 +2,8 @@
 //
 // A line is the length and then five numbers for each entry: id, kind (0 Active, 1 Passive), policy (0 Required,
 // 1 Isolable, 2 Cascading), region, dependency (256 for none). Any byte that is no digit ends a number.
+#![tactic(auto)]
+
 use components::ComponentList;
 use libc::{STDIN_FILENO, STDOUT_FILENO};
 
