@@ -11,7 +11,7 @@ ghost use Rattle.cascade.specs.Dependents.{dependents, Lists};
 use chain::Chain;
 
 // Positions of a chain, the first `count` of the array.
-#[derive(Drop)]
+#[derive(Clone, Copy)]
 pub struct Order {
     pub at: [u8; 255],
     pub count: usize,

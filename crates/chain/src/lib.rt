@@ -10,7 +10,7 @@ ghost use Rattle.chain.specs.Filled.{Filled, ById, ChartOf};
 use components::ComponentList;
 use model::{Component, ComponentId, ComponentKind, FailurePolicy, OptionId};
 
-#[derive(Drop)]
+#[derive(Clone, Copy)]
 pub struct Chain {
     pub list: ComponentList,
     // By id: the position of the component, or the number of components.

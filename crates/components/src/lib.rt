@@ -8,14 +8,14 @@ use model::{Component, ComponentAttrs, ComponentId, ComponentKind, FailurePolicy
 
 // The entries handed in. The length may be any number: what stands past it is not looked at, and of a longer list
 // the first 255 entries are kept.
-#[derive(Drop)]
+#[derive(Clone, Copy)]
 pub struct ComponentList {
     pub entries: [Component; 255],
     pub len: usize,
 }
 
 // Why a list of components is no chain.
-#[derive(Drop)]
+#[derive(Clone, Copy)]
 pub enum ChainError {
     Empty,
     TooLong,
@@ -31,14 +31,14 @@ pub enum ChainError {
 }
 
 // The source's Result of Chain::try_from; the chain is the list itself.
-#[derive(Drop)]
+#[derive(Clone, Copy)]
 pub enum Verdict {
     Accepted,
     Refused(ChainError),
 }
 
 // A number of the scope's questions and its two places.
-#[derive(Drop)]
+#[derive(Clone, Copy)]
 pub struct Answer {
     pub number: u64,
     pub place: u64,
@@ -46,7 +46,7 @@ pub struct Answer {
 }
 
 // The questions that are put to each entry in turn: 4, and 5 with 6.
-#[derive(Drop)]
+#[derive(Clone, Copy)]
 pub enum Question {
     NewId,
     Link,

@@ -17,7 +17,7 @@ use machine::Work;
 use model::{ComponentId, Effect, FailurePolicy};
 
 // Where a corruption is met: in a walk, while an update is staged, or elsewhere.
-#[derive(Drop)]
+#[derive(Clone, Copy)]
 pub enum Situation {
     Walking,
     Updated,

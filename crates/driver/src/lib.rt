@@ -25,7 +25,7 @@ use settling::{Dispatch, Machine, Reply, Waiting};
 use text::{Line, Room};
 
 // What a turn of the machine would do.
-#[derive(Drop)]
+#[derive(Clone, Copy)]
 pub enum Stage {
     Waits,
     HandsOut,
@@ -35,7 +35,7 @@ pub enum Stage {
 
 // Where a run stands, beside its machine: the place of the next line in the sheet, and its number; the number of the E line
 // at work, or 0; events settled, T lines told, bytes written; and how the run ended.
-#[derive(Drop)]
+#[derive(Clone, Copy)]
 pub struct Cursor {
     pub at: usize,
     pub line: usize,
@@ -50,7 +50,7 @@ pub struct Cursor {
 
 // What a step does to the machine: nothing, the dispatch has ended, an event is queued, the waiting effect is answered, a
 // turn.
-#[derive(Drop)]
+#[derive(Clone, Copy)]
 pub enum Act {
     Stay,
     Rest,
@@ -60,7 +60,7 @@ pub enum Act {
 }
 
 // The line that a step writes: none, of the effect that it hands out, of the state before it, of the next component.
-#[derive(Drop)]
+#[derive(Clone, Copy)]
 pub enum Say {
     Silence,
     EffectLine,
@@ -69,7 +69,7 @@ pub enum Say {
 }
 
 // A step of a run: the cursor after it, what it does to the machine, and the line that it writes.
-#[derive(Drop)]
+#[derive(Clone, Copy)]
 pub struct Plan {
     pub cursor: Cursor,
     pub act: Act,
@@ -77,7 +77,7 @@ pub struct Plan {
 }
 
 // How a run ended: its number and place, events settled, bytes written.
-#[derive(Drop)]
+#[derive(Clone, Copy)]
 pub struct End {
     pub number: u64,
     pub place: u64,

@@ -5,7 +5,7 @@ ghost use Rattle.std.specs.Prelude.{◌≡◌};
 ghost use Rattle.fields.specs.Fields.{place_of, same_bytes, before, after, digits_from, number_of};
 
 // A number, where a text is one.
-#[derive(Drop)]
+#[derive(Clone, Copy)]
 pub enum OptionNumber {
     None,
     Some(u64),

@@ -6,7 +6,7 @@
 ghost use Rattle.std.specs.Prelude.{◌≡◌, true, false, [], ◌∷◌, ◌≤◌, get_or, set, replicate};
 ghost use Rattle.isolated.specs.Flags.{flags, next_free, trues};
 
-#[derive(Drop)]
+#[derive(Clone, Copy)]
 pub struct Isolated {
     pub words: [u64; 4],
 }

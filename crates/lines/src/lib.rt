@@ -12,7 +12,7 @@ use pending::OptionEvent;
 use settling::Reply;
 
 // What a line says: B, C, E and R, or a line that is none of these.
-#[derive(Drop)]
+#[derive(Clone, Copy)]
 pub enum Row {
     Retry(u8),
     Card(Component),

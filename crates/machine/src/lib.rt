@@ -12,14 +12,14 @@ use isolated::Isolated;
 use model::{Effect, State};
 use store::{Sink, Status};
 
-#[derive(Drop)]
+#[derive(Clone, Copy)]
 pub enum ComponentLifecycle {
     Nominal,
     Isolated,
 }
 
 // A component's status as the scope names it. Only the isolated set says who is isolated.
-#[derive(Drop)]
+#[derive(Clone, Copy)]
 pub struct ComponentStatus {
     pub lifecycle: ComponentLifecycle,
     pub retry: u8,
@@ -28,7 +28,7 @@ pub struct ComponentStatus {
 }
 
 // What the machine keeps between events, beside its state.
-#[derive(Drop)]
+#[derive(Clone, Copy)]
 pub struct Rot {
     pub statuses: [Status; 255],
     pub isolated: Isolated,
@@ -67,7 +67,7 @@ impl Rot {
 }
 
 // A machine at work on one event: the effects so far are in the sink.
-#[derive(Drop)]
+#[derive(Clone, Copy)]
 pub struct Work {
     pub state: State,
     pub rot: Rot,

@@ -6,7 +6,7 @@ ghost use Rattle.std.specs.Prelude.{◌≡◌};
 ghost use Rattle.model.specs.Vocabulary.{id_of, region_of, plain_attrs, in_region, depending_on, named};
 
 // Names one component. What it stands for is the board's affair.
-#[derive(Drop)]
+#[derive(Clone, Copy)]
 pub struct ComponentId(pub u8);
 
 impl ComponentId {
@@ -24,7 +24,7 @@ impl ComponentId {
 }
 
 // Names a recovery region. A type of its own, so that it is never taken for a component.
-#[derive(Drop)]
+#[derive(Clone, Copy)]
 pub struct RegionId(pub u8);
 
 impl RegionId {
@@ -43,26 +43,26 @@ impl RegionId {
 }
 
 // The source's Option<ComponentId>.
-#[derive(Drop)]
+#[derive(Clone, Copy)]
 pub enum OptionId {
     None,
     Some(ComponentId),
 }
 
-#[derive(Drop)]
+#[derive(Clone, Copy)]
 pub enum ComponentKind {
     Active,
     Passive,
 }
 
-#[derive(Drop)]
+#[derive(Clone, Copy)]
 pub enum FailurePolicy {
     Required,
     Isolable,
     Cascading,
 }
 
-#[derive(Drop)]
+#[derive(Clone, Copy)]
 pub struct ComponentAttrs {
     pub kind: ComponentKind,
     pub failure_policy: FailurePolicy,
@@ -142,7 +142,7 @@ impl ComponentAttrs {
 }
 
 // What the board's power-on checks found.
-#[derive(Drop)]
+#[derive(Clone, Copy)]
 pub enum PowerOnResult {
     Provisioned,
     Unprovisioned,
@@ -150,7 +150,7 @@ pub enum PowerOnResult {
 }
 
 // Why a boot walk failed at a checkpoint.
-#[derive(Drop)]
+#[derive(Clone, Copy)]
 pub enum BootFailureKind {
     TimedOut,
     DeviceRetriable,
@@ -158,7 +158,7 @@ pub enum BootFailureKind {
 }
 
 // Everything that the outside can tell the state machine. A checkpoint is a number, 0 to 65535.
-#[derive(Drop)]
+#[derive(Clone, Copy)]
 pub enum Event {
     PowerGood(PowerOnResult),
     VerificationPassed(ComponentId),
@@ -217,7 +217,7 @@ impl Event {
 }
 
 // Everything that the state machine can ask the outside to do, and Emit, which never leaves it.
-#[derive(Drop)]
+#[derive(Clone, Copy)]
 pub enum Effect {
     ReadFirmware(ComponentId),
     VerifyFirmware(ComponentId),
@@ -246,7 +246,7 @@ pub enum Effect {
     Emit(Event),
 }
 
-#[derive(Drop)]
+#[derive(Clone, Copy)]
 pub enum State {
     PowerOnReset,
     PreSupervision,
@@ -258,7 +258,7 @@ pub enum State {
 }
 
 // One entry of a chain.
-#[derive(Drop)]
+#[derive(Clone, Copy)]
 pub struct Component {
     pub id: ComponentId,
     pub attrs: ComponentAttrs,

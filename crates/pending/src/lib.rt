@@ -7,20 +7,20 @@ ghost use Rattle.pending.specs.Queue.{events, no_events, first_of, rest, at_back
 use model::{Effect, Event};
 
 // The source's Option<Event>.
-#[derive(Drop)]
+#[derive(Clone, Copy)]
 pub enum OptionEvent {
     NoEvent,
     OneEvent(Event),
 }
 
 // One place of the queue. A field that is an array of enums would need proofs by hand throughout; an array of these does not.
-#[derive(Drop)]
+#[derive(Clone, Copy)]
 pub struct Entry {
     pub event: Event,
 }
 
 // The events are those in the first `len` places, the front first. What stands in the other places means nothing.
-#[derive(Drop)]
+#[derive(Clone, Copy)]
 pub struct Pending {
     pub entries: [Entry; 8],
     pub len: usize,

@@ -7,7 +7,7 @@ ghost use Rattle.printout.specs.Program.{refusal_line, printed_of, Prints, Lengt
 use text::{Line, Room};
 
 // A transcript buffer of 65,536 bytes with room for one line behind it, and how many of the bytes are printed.
-#[derive(Drop)]
+#[derive(Clone, Copy)]
 pub struct Printout {
     pub bytes: [u8; 65600],
     pub len: usize,

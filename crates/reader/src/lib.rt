@@ -9,7 +9,7 @@ use components::ComponentList;
 use lines::Row;
 
 // Which lines may come: the B line, then C lines, then E and R lines. After a bad line none may.
-#[derive(Drop)]
+#[derive(Clone, Copy)]
 pub enum Part {
     Opening,
     Cards,
@@ -18,14 +18,14 @@ pub enum Part {
 }
 
 // What a line says, and the place of the line after it.
-#[derive(Drop)]
+#[derive(Clone, Copy)]
 pub struct Next {
     pub row: Row,
     pub after: usize,
 }
 
 // The first bad line from 1, or 0; and what the B line and the C lines before it say.
-#[derive(Drop)]
+#[derive(Clone, Copy)]
 pub struct Sheet {
     pub bad: usize,
     pub max_retry: u8,

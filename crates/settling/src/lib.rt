@@ -13,14 +13,14 @@ use model::{Effect, Event};
 use pending::{OptionEvent, Pending};
 
 // The effect that waits for its reply.
-#[derive(Drop)]
+#[derive(Clone, Copy)]
 pub enum Waiting {
     Nothing,
     Handed(Effect),
 }
 
 // The answer to an effect that was handed out: done, done with one event, or failed.
-#[derive(Drop)]
+#[derive(Clone, Copy)]
 pub enum Reply {
     Done,
     Then(Event),
@@ -29,7 +29,7 @@ pub enum Reply {
 
 // What a dispatch keeps, in the source the locals of `dispatch_with`: the place in the batch of the effect that is handed
 // out next, the effect that waits for its reply, the queue, and whether the dispatch has failed.
-#[derive(Drop)]
+#[derive(Clone, Copy)]
 pub struct Dispatch {
     pub next: usize,
     pub waiting: Waiting,
@@ -39,7 +39,7 @@ pub struct Dispatch {
 
 // The effects of the batch are those in the sink of the work. What a dispatch keeps is a part by itself, so that what settles
 // no event need take and give this part alone.
-#[derive(Drop)]
+#[derive(Clone, Copy)]
 pub struct Machine {
     pub chain: Chain,
     pub max_retry: u8,

@@ -10,7 +10,7 @@ use settling::Machine;
 
 // A number of the scope's questions or 0, its two places, bytes written, events settled.
 #[repr(C)]
-#[derive(Drop)]
+#[derive(Clone, Copy)]
 pub struct Answer {
     pub number: u64,
     pub place: u64,

@@ -21,14 +21,14 @@ use settling::{Dispatch, Machine, Reply, Waiting};
 use store::Sink;
 
 // What `new` gives. On a refusal the machine is `blank`, which is no machine for any chain.
-#[derive(Drop)]
+#[derive(Clone, Copy)]
 pub struct Made {
     pub machine: Machine,
     pub answer: Answer,
 }
 
 // What `begin` and `reply` give: the machine, the number of a question or 0, and the effect now waiting or none.
-#[derive(Drop)]
+#[derive(Clone, Copy)]
 pub struct Called {
     pub machine: Machine,
     pub number: u64,

@@ -37,7 +37,7 @@ use sm::Called;
 use store::{Sink, Status};
 
 // The machine of the step calls, if there is one.
-#[derive(Drop)]
+#[derive(Clone, Copy)]
 struct Kept {
     has: bool,
     machine: Machine,
@@ -45,7 +45,7 @@ struct Kept {
 
 // The numbers of the line so far, the number that is being read, and what is kept from line to line. A case has at most
 // 2305 numbers.
-#[derive(Drop)]
+#[derive(Clone, Copy)]
 struct Line {
     numbers: [u64; 2400],
     count: usize,
@@ -54,7 +54,7 @@ struct Line {
 }
 
 // Four numbers of an answer: of the machine, of a status or of an effect.
-#[derive(Drop)]
+#[derive(Clone, Copy)]
 struct Row {
     a: u64,
     b: u64,

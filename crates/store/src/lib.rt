@@ -10,13 +10,13 @@ ghost use Rattle.store.specs.Retry.{no_retry};
 use model::Effect;
 
 // One place of a sink. A field that is an array of enums would need proofs by hand throughout; an array of these does not.
-#[derive(Drop)]
+#[derive(Clone, Copy)]
 pub struct Slot {
     pub effect: Effect,
 }
 
 // The effects of one event: those in the first `len` slots. What stands in the other slots means nothing.
-#[derive(Drop)]
+#[derive(Clone, Copy)]
 pub struct Sink {
     pub effects: [Slot; 512],
     pub len: usize,
@@ -92,7 +92,7 @@ pub fn emitted(sink: Sink, effect: Effect) -> Sink
 }
 
 // What is stored of a component. Whether it is isolated is kept elsewhere, for all components at once.
-#[derive(Drop)]
+#[derive(Clone, Copy)]
 pub struct Status {
     pub retry: u8,
     pub awaiting_boot: bool,

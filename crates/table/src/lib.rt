@@ -20,7 +20,7 @@ const RULES: [[u8; 18]; 7] = [
 ];
 
 // What a boot failure says besides its component.
-#[derive(Drop)]
+#[derive(Clone, Copy)]
 pub struct BootFailure {
     pub checkpoint: u16,
     pub kind: BootFailureKind,

@@ -6,14 +6,14 @@ ghost use Rattle.text.specs.Text.{◌⇥◌, line, decimal};
 ghost use Rattle.text.specs.Lines.{text_of, Pushed, Built, written, room_after};
 
 // The longest line of a transcript has 45 bytes. A length over 64 counts as 64, so that no caller has to show anything.
-#[derive(Drop)]
+#[derive(Clone, Copy)]
 pub struct Line {
     pub bytes: [u8; 64],
     pub len: usize,
 }
 
 // Where the next line goes, or no room for this one.
-#[derive(Drop)]
+#[derive(Clone, Copy)]
 pub enum Room {
     At(usize),
     Full,

@@ -8,7 +8,7 @@ use components::ComponentList;
 use libc::{STDIN_FILENO, STDOUT_FILENO};
 
 // The line so far: its entries, the numbers of the entry at hand behind the length, and the number at hand.
-#[derive(Drop)]
+#[derive(Clone, Copy)]
 struct Line {
     list: ComponentList,
     fields: [u64; 6],
