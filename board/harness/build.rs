@@ -1,4 +1,4 @@
-//! Links `libsheet.a`, which `rt staticlib sheet` writes to `target/staticlib`.
+//! Links `libsheet.a`, which `tests/build sheet` writes to `target/staticlib`.
 //! Another folder can be named by `MALLARDTRAY_LIBRARY`.
 
 use std::env;
