@@ -10,7 +10,7 @@ use Rattle.model.specs.declared.ComponentId.{ComponentId}
 use Rattle.model.specs.declared.Component.{Component}
 use Rattle.model.specs.declared.OptionId.TheVariants.{Some}
 use Rattle.model.specs.Vocabulary.{id_of}
-use Rattle.components.specs.Chain.{position, same_id, at, id_at, depends_at, blank, Sound}
+use Rattle.components.specs.Chain.{position, same_id, id_at, depends_at, blank, Sound}
 use Rattle.model.proofs.Pick.{pick_p}
 
 pub same_id_lem : (a b : ComponentId) → same_id a b ≡ true → a ≡ b
