@@ -1,0 +1,19 @@
+-- From 256 on `set` leaves the list as it is; below, the word with one bit more has one digit more, at p.
+use Rattle.std.proofs.Common.{◌≡◌, true, sym, rules, arith, length}
+use Rattle.std.proofs.Math.Seq.{set_out}
+use Rattle.isolated.specs.Flags.{flags}
+use Rattle.isolated.proofs.Words.{set-position}
+use Rattle.isolated.proofs.Laws.{length-flags}
+use Rattle.isolated.proofs.Isolated.insert.Goals as goal
+
+pub returns-then-p-ge256 : goal.returns-then-p-ge256
+returns-then-p-ge256 c =
+    let s = c.args.self in
+    let four : length c.args.self.words ≡ 4 = search rules in
+    sym (set_out (flags s) c.args.p true (omega (arith, length-flags s four)))
+
+pub returns : goal.returns
+unfolding flags
+returns c =
+    let four : length c.args.self.words ≡ 4 = search rules in
+    set-position c.args.self.words c.args.p (omega arith)
