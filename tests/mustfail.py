@@ -3,7 +3,7 @@ must-fail-logs and mutants, so that both mean the same by it."""
 import re
 
 SHAPE = [
-    "has no `Need-",
+    "has no `",
     "is not in scope",
     "error[",
     "parse error",
