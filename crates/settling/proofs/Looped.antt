@@ -4,9 +4,8 @@ use native.Mathlib.Numerals.{add-one}
 use native.Mathlib.Omega.{arith}
 use mathlib.Core.Path.{◌≡◌, refl, sym, ap, ◌∙◌}
 use mathlib.Core.List.{List, []}
-use lib.ListN.{length, drop, take, length-drop, length-map, length-take}
+use lib.ListN.{length, take, length-drop, length-map, length-take}
 use Rattle.model.specs.declared.Component.{Component}
-use Rattle.chain.specs.declared.Chain.{Chain}
 use Rattle.chain.specs.Tables.{entries}
 use Rattle.store.specs.Sink.{effect_of, held}
 use Rattle.settling.specs.declared.Machine.{Machine}

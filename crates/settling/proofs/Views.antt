@@ -1,12 +1,11 @@
 -- The code's machine and how it is read: what each change of a field does to the view.
-use Prim.Native.Nat.{ℕ, suc, ◌+◌, ◌*◌, ◌<◌, ◌≤◌, min}
+use Prim.Native.Nat.{ℕ, ◌+◌, ◌<◌, ◌≤◌}
 use native.Mathlib.Numerals.{add-one}
 use native.Mathlib.Omega.{arith}
 use mathlib.Core.Path.{◌≡◌, refl, sym, ap, ◌∙◌, subst}
 use mathlib.Core.Bool.{Bool, true, false}
 use mathlib.Core.List.{List, [], ◌∷◌, ◌++◌}
-use lib.Dec.{ltb}
-use lib.ListN.{length, take, drop, get_or, length-take, length-map, drop_of_length-le}
+use lib.ListN.{length, take, drop, length-take, length-map, drop_of_length-le}
 use lib.Seq.{drop-cons}
 use borrow.Author.Tests.{lt-ltb, le-ltb}
 use Rattle.model.specs.Vocabulary.{pick}
@@ -15,14 +14,13 @@ use Rattle.model.specs.declared.Event.{Event}
 use Rattle.model.specs.declared.Effect.{Effect}
 use Rattle.model.specs.declared.Effect.TheVariants.{LatchLockdown}
 use Rattle.chain.specs.declared.Chain.{Chain}
-use Rattle.chain.specs.Tables.{entries, size}
-use Rattle.store.specs.declared.Sink.{Sink}
+use Rattle.chain.specs.Tables.{size}
 use Rattle.store.specs.Sink.{effect_of, held, effect_at}
 use Rattle.store.proofs.Laws.{at_held}
 use Rattle.pending.specs.declared.Pending.{Pending}
 use Rattle.pending.specs.declared.OptionEvent.{OptionEvent}
 use Rattle.pending.specs.declared.OptionEvent.TheVariants.{NoEvent, OneEvent}
-use Rattle.pending.specs.Queue.{events, first_of, rest, at_back, latched, emits}
+use Rattle.pending.specs.Queue.{events, first_of, rest, at_back, emits}
 use Rattle.machine.specs.declared.Work.{Work}
 use Rattle.machine.specs.View.{Core}
 use Rattle.entry.specs.Premise.{Sane}
@@ -34,7 +32,7 @@ use Rattle.settling.specs.declared.Waiting.TheVariants.{Nothing, Handed}
 use Rattle.settling.specs.Settle.{Model, waiting_is, left_is, queue_is, failed_is, latch, fail, enqueue, hand_out, front_taken, turn_by, turn_of, taken_by, next_event}
 use Rattle.settling.specs.View.{view, within, chain_of, Short, Whole, Becomes}
 use Rattle.settling.specs.Parts.{waits, Moves, Taken}
-use Rattle.settling.proofs.Ends.{Few, latch-few, enqueue-few}
+use Rattle.settling.proofs.Ends.{Few}
 
 -- A dispatch with another place in its batch, another queue and another mark of failure; a machine with another dispatch.
 abbrev pub nexts : ℕ → Dispatch → Dispatch

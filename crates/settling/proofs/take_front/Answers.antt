@@ -1,0 +1,6 @@
+-- `take_front` meets its contract: the step's machine and effects, and the queue without its front.
+use Rattle.settling.proofs.Views.{stepped-becomes}
+use Rattle.settling.proofs.take_front.Goals as goal
+
+pub returns : goal.returns
+returns c = stepped-becomes c.args.m c.requires c.args.event c.step-stepped.result c.taken-after.result c.step-stepped.ensures c.taken-after.ensures
