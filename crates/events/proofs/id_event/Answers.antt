@@ -1,0 +1,51 @@
+-- `id_event` meets its contract: the tests go through the table in its order.
+use Rattle.std.proofs.Common.{◌∙◌}
+use Rattle.events.specs.Read.{id_event}
+use Rattle.fields.proofs.Tables.{here, next, none}
+use Rattle.events.proofs.id_event.Goals as goal
+
+pub returns-then-same : goal.returns-then-same
+unfolding id_event
+returns-then-same c =
+    here _ _ _ c.same.ensures _ _ _ c.if-same.true
+
+pub returns-then-same-2 : goal.returns-then-same-2
+unfolding id_event
+returns-then-same-2 c =
+    next _ _ _ c.same.ensures _ _ _ c.if-same.false
+    (here _ _ _ c.same-2.ensures _ _ _ c.if-same-2.true)
+
+pub returns-then-same-3 : goal.returns-then-same-3
+unfolding id_event
+returns-then-same-3 c =
+    next _ _ _ c.same.ensures _ _ _ c.if-same.false
+    (next _ _ _ c.same-2.ensures _ _ _ c.if-same-2.false
+    (here _ _ _ c.same-3.ensures _ _ _ c.if-same-3.true))
+
+pub returns-then-same-4 : goal.returns-then-same-4
+unfolding id_event
+returns-then-same-4 c =
+    next _ _ _ c.same.ensures _ _ _ c.if-same.false
+    (next _ _ _ c.same-2.ensures _ _ _ c.if-same-2.false
+    (next _ _ _ c.same-3.ensures _ _ _ c.if-same-3.false
+    (here _ _ _ c.same-4.ensures _ _ _ c.if-same-4.true)))
+
+pub returns-then-same-5 : goal.returns-then-same-5
+unfolding id_event
+returns-then-same-5 c =
+    next _ _ _ c.same.ensures _ _ _ c.if-same.false
+    (next _ _ _ c.same-2.ensures _ _ _ c.if-same-2.false
+    (next _ _ _ c.same-3.ensures _ _ _ c.if-same-3.false
+    (next _ _ _ c.same-4.ensures _ _ _ c.if-same-4.false
+    (here _ _ _ c.same-5.ensures _ _ _ c.if-same-5.true))))
+
+pub returns : goal.returns
+unfolding id_event
+returns c =
+    c.fault_event.ensures
+    ∙ next _ _ _ c.same.ensures _ _ _ c.if-same.false
+    (next _ _ _ c.same-2.ensures _ _ _ c.if-same-2.false
+    (next _ _ _ c.same-3.ensures _ _ _ c.if-same-3.false
+    (next _ _ _ c.same-4.ensures _ _ _ c.if-same-4.false
+    (next _ _ _ c.same-5.ensures _ _ _ c.if-same-5.false
+    (none _ _)))))
