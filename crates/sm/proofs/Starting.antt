@@ -17,12 +17,10 @@ use Rattle.components.proofs.Accepted.{accepted}
 use Rattle.chain.specs.declared.Chain.{Chain}
 use Rattle.chain.specs.Tables.{entries, size}
 use Rattle.chain.specs.Filled.{ChartOf}
-use Rattle.chain.proofs.Room.{all-kept}
 use Rattle.store.specs.Sink.{held}
 use Rattle.pending.specs.Queue.{events}
 use Rattle.machine.specs.declared.ComponentStatus.{ComponentStatus}
 use Rattle.machine.specs.Status.{fresh}
-use Rattle.machine.specs.View.{Fit}
 use Rattle.machine.proofs.New.{new-fits, new-statuses}
 use Rattle.settling.specs.declared.Machine.{Machine}
 use Rattle.settling.specs.declared.Waiting.TheVariants.{Nothing}

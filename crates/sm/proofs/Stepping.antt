@@ -1,5 +1,5 @@
 -- What a step call gives, from what its parts give.
-use Prim.Native.Nat.{ℕ, ◌≤◌}
+use Prim.Native.Nat.{ℕ}
 use native.Mathlib.Omega.{arith}
 use mathlib.Core.Path.{◌≡◌, refl, sym, ap, ◌∙◌, subst}
 use mathlib.Core.Bool.{Bool, true, false}
@@ -25,7 +25,7 @@ use Rattle.settling.specs.Parts.{Moves}
 use Rattle.settling.proofs.Ends.{Few, fail-few, enqueue-few, settle-ends}
 use Rattle.settling.proofs.Views.{puts, becomes-as, moves-becomes, enqueue-room, view-waiting, never}
 use Rattle.sm.specs.declared.Called.{Called}
-use Rattle.sm.specs.Calls.{Expected, answered, refused, done_by, begin_of, reply_by, reply_of}
+use Rattle.sm.specs.Calls.{answered, refused, done_by, begin_of, reply_by, reply_of}
 use Rattle.sm.specs.Gives.{reported, CallGives}
 
 -- Where the earlier event is done, nothing waits and nothing is queued.

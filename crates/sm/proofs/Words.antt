@@ -1,18 +1,17 @@
 -- The four isolated words against the statuses: position p is flagged exactly where its component is isolated.
-use Prim.Native.Nat.{ℕ, zero, suc, ◌+◌, ◌-◌, ◌≤◌}
+use Prim.Native.Nat.{ℕ, zero, suc, ◌-◌, ◌≤◌}
 use native.Mathlib.Omega.{arith}
 use mathlib.Core.Path.{◌≡◌, refl, sym, ap, ◌∙◌}
 use mathlib.Core.Bool.{Bool, true, false}
 use mathlib.Core.List.{List, [], ◌∷◌, ◌++◌, map}
-use lib.ListN.{length, take, drop, replicate, take-append-drop, length-take}
+use lib.ListN.{length, take, replicate, take-append-drop, length-take}
 use Rattle.isolated.specs.Flags.{flags, trues}
 use Rattle.store.specs.declared.Status.{Status}
-use Rattle.machine.specs.declared.ComponentStatus.{ComponentStatus}
 use Rattle.machine.specs.Status.{iso}
-use Rattle.machine.specs.View.{lifecycle_of, joined, statuses_of}
+use Rattle.machine.specs.View.{joined, statuses_of}
 use Rattle.chain.specs.Tables.{size}
 use Rattle.settling.specs.declared.Machine.{Machine}
-use Rattle.settling.specs.View.{view, chain_of, Valid}
+use Rattle.settling.specs.View.{view, Valid}
 use Rattle.sm.specs.Isolation.{isolation}
 
 iso-joined : (bs : List Bool) (ss : List Status) → length bs ≤ length ss → map iso (joined bs ss) ≡ bs
