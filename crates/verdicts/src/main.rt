@@ -4,8 +4,11 @@
 // 1 Isolable, 2 Cascading), region, dependency (256 for none). Any byte that is no digit ends a number.
 #![tactic(auto)]
 
+ghost use Rattle.std.specs.Prelude.{◌≤◌, length, IfOk};
+
 use components::ComponentList;
-use libc::{STDIN_FILENO, STDOUT_FILENO};
+use std::io;
+use std::io::{Read, Stdin, Stdout};
 
 // The line so far: its entries, the numbers of the entry at hand behind the length, and the number at hand.
 #[derive(Clone, Copy)]
@@ -25,16 +28,11 @@ fn new_line() -> Line {
     }
 }
 
-fn write_answer(list: ComponentList, len: u64) {
+fn write_answer(out: Stdout, list: ComponentList, len: u64) -> io::Result<()> {
     let mut l = list;
     l.len = len as usize;
     let a = l.verdict().answer();
-    io::print_decimal(STDOUT_FILENO, a.number);
-    io::write_all(STDOUT_FILENO, b" ");
-    io::print_decimal(STDOUT_FILENO, a.place);
-    io::write_all(STDOUT_FILENO, b" ");
-    io::print_decimal(STDOUT_FILENO, a.other);
-    io::write_all(STDOUT_FILENO, b"\n");
+    println!(out; "{} {} {}", a.number, a.place, a.other)
 }
 
 // A number has ended: it is kept, and with an entry's last number the entry is.
@@ -57,7 +55,7 @@ fn end_number(line: Line) -> Line {
 }
 
 // The bytes of a chunk, one after the other.
-fn feed(line: Line, chunk: &[u8]) -> Line {
+fn feed(out: Stdout, line: Line, chunk: &[u8]) -> io::Result<Line> {
     let mut at: Line = line;
     let mut i: usize = 0;
     while i < chunk.len() {
@@ -70,24 +68,41 @@ fn feed(line: Line, chunk: &[u8]) -> Line {
         }
         if b == 10 {
             let list = at.list;
-            write_answer(list, at.fields[0]);
+            write_answer(out, list, at.fields[0])?;
             at = new_line();
         }
     }
-    at
+    Ok(at)
+}
+
+// Reads until the buffer is full or the input ends, and answers how many bytes there are.
+fn read_full(from: Stdin, buf: &mut [u8]) -> io::Result<usize>
+    ensures { IfOk result (λ n. n ≤ length buf.new) }
+{
+    let mut input = from;
+    let mut done: usize = 0;
+    while done < buf.len() {
+        let n = input.read(&mut buf[done..])?;
+        if n == 0 {
+            return Ok(done);
+        }
+        done += n;
+    }
+    Ok(done)
 }
 
 // At most 65,536 chunks, so that the program ends whatever it is fed.
-fn main() {
+fn main(rt: HostRuntime) -> io::Result<()> {
     let mut line = new_line();
-    let mut chunk = io::large_buffer();
+    let mut chunk = [0u8; 65536];
     let mut turn: usize = 0;
     while turn < 65536 {
-        let n = io::read_full(STDIN_FILENO, &mut chunk);
+        let n = read_full(rt.stdin(), &mut chunk)?;
         if n == 0 {
-            return;
+            return Ok(());
         }
-        line = feed(line, &chunk[..n]);
+        line = feed(rt.stdout(), line, &chunk[..n])?;
         turn += 1;
     }
+    Ok(())
 }
