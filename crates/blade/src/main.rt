@@ -6,12 +6,13 @@ ghost use Rattle.std.specs.Prelude.{◌≡◌, ◌≤◌};
 ghost use Rattle.settling.specs.View.{Valid};
 
 use components::ComponentList;
-use libc::STDOUT_FILENO;
+use itoa::Buffer;
 use model::{
     BootFailureKind, Component, ComponentAttrs, ComponentId, Effect, Event, OptionId,
     PowerOnResult, State,
 };
 use settling::{Machine, Reply, Waiting};
+use std::io::Stdout;
 
 fn up_to(n: usize, most: usize) -> usize
     ensures { result ≤ most }
@@ -19,106 +20,120 @@ fn up_to(n: usize, most: usize) -> usize
     if n < most { n } else { most }
 }
 
+// What stands in the text goes out. A write that fails is passed over.
+fn put_bytes(out: Stdout, text: &[u8]) {
+    let _ = out.write_all(text);
+}
+
 // The first bytes of a text.
-fn put_first(text: &[u8], len: usize) {
+fn put_first(out: Stdout, text: &[u8], len: usize) {
     let n = up_to(len, text.len());
-    io::write_all(STDOUT_FILENO, &text[..n]);
+    put_bytes(out, &text[..n]);
 }
 
 // The digits are lent as an array, whose length its type shows.
-fn put_digits(text: &[u8; 20], len: usize) {
-    put_first(text, len);
+fn put_digits(out: Stdout, text: &[u8; 20], len: usize) {
+    put_first(out, text, len);
 }
 
-fn put_number(n: u64) {
+// Puts the digits of n at the start of the text, and answers how many there are.
+fn decimal(n: u64, text: &mut [u8; 20]) -> usize {
+    let mut buffer = Buffer::new();
+    let digits = buffer.format(n).as_bytes();
+    let len = digits.len();
+    text[..len].copy_from_slice(digits);
+    len
+}
+
+fn put_number(out: Stdout, n: u64) {
     let mut text = [0u8; 20];
-    let len = io::decimal(n, &mut text);
-    put_digits(&text, len);
+    let len = decimal(n, &mut text);
+    put_digits(out, &text, len);
 }
 
 // A field: a tab and a number.
-fn put_field(n: u64) {
-    io::write_all(STDOUT_FILENO, b"\t");
-    put_number(n);
+fn put_field(out: Stdout, n: u64) {
+    put_bytes(out, b"\t");
+    put_number(out, n);
 }
 
-fn put_line(name: &[u8]) {
-    io::write_all(STDOUT_FILENO, name);
-    io::write_all(STDOUT_FILENO, b"\n");
+fn put_line(out: Stdout, name: &[u8]) {
+    put_bytes(out, name);
+    put_bytes(out, b"\n");
 }
 
 // A line about one component.
-fn put_named(name: &[u8], id: ComponentId) {
-    io::write_all(STDOUT_FILENO, name);
-    put_field(id.get() as u64);
-    io::write_all(STDOUT_FILENO, b"\n");
+fn put_named(out: Stdout, name: &[u8], id: ComponentId) {
+    put_bytes(out, name);
+    put_field(out, id.get() as u64);
+    put_bytes(out, b"\n");
 }
 
-fn put_recover(id: ComponentId, attempt: u8) {
-    io::write_all(STDOUT_FILENO, b"X\tRecoverComponent");
-    put_field(id.get() as u64);
-    put_field(attempt as u64);
-    io::write_all(STDOUT_FILENO, b"\n");
+fn put_recover(out: Stdout, id: ComponentId, attempt: u8) {
+    put_bytes(out, b"X\tRecoverComponent");
+    put_field(out, id.get() as u64);
+    put_field(out, attempt as u64);
+    put_bytes(out, b"\n");
 }
 
-fn put_kind(kind: BootFailureKind) {
+fn put_kind(out: Stdout, kind: BootFailureKind) {
     match kind {
-        BootFailureKind::TimedOut => put_line(b"\tTimedOut"),
-        BootFailureKind::DeviceRetriable => put_line(b"\tDeviceRetriable"),
-        BootFailureKind::DeviceFatal => put_line(b"\tDeviceFatal"),
+        BootFailureKind::TimedOut => put_line(out, b"\tTimedOut"),
+        BootFailureKind::DeviceRetriable => put_line(out, b"\tDeviceRetriable"),
+        BootFailureKind::DeviceFatal => put_line(out, b"\tDeviceFatal"),
     }
 }
 
-fn put_boot_failed(id: ComponentId, checkpoint: u16, kind: BootFailureKind) {
-    io::write_all(STDOUT_FILENO, b"X\tReportBootFailed");
-    put_field(id.get() as u64);
-    put_field(checkpoint as u64);
-    put_kind(kind);
+fn put_boot_failed(out: Stdout, id: ComponentId, checkpoint: u16, kind: BootFailureKind) {
+    put_bytes(out, b"X\tReportBootFailed");
+    put_field(out, id.get() as u64);
+    put_field(out, checkpoint as u64);
+    put_kind(out, kind);
 }
 
-fn put_effect(effect: Effect) {
+fn put_effect(out: Stdout, effect: Effect) {
     match effect {
-        Effect::ReadFirmware(id) => put_named(b"X\tReadFirmware", id),
-        Effect::VerifyFirmware(id) => put_named(b"X\tVerifyFirmware", id),
-        Effect::ReleaseReset(id) => put_named(b"X\tReleaseReset", id),
-        Effect::AssertReset(id) => put_named(b"X\tAssertReset", id),
-        Effect::SignAttestation => put_line(b"X\tSignAttestation"),
-        Effect::AuthenticateUpdate => put_line(b"X\tAuthenticateUpdate"),
-        Effect::StageUpdate => put_line(b"X\tStageUpdate"),
-        Effect::ActivateUpdate => put_line(b"X\tActivateUpdate"),
-        Effect::DiscardStaged => put_line(b"X\tDiscardStaged"),
-        Effect::CommitSvnFloor(id) => put_named(b"X\tCommitSvnFloor", id),
-        Effect::RecoverComponent { id, attempt } => put_recover(id, attempt),
-        Effect::ReportIsolated(id) => put_named(b"X\tReportIsolated", id),
-        Effect::ReportRecoveryFailed(id) => put_named(b"X\tReportRecoveryFailed", id),
+        Effect::ReadFirmware(id) => put_named(out, b"X\tReadFirmware", id),
+        Effect::VerifyFirmware(id) => put_named(out, b"X\tVerifyFirmware", id),
+        Effect::ReleaseReset(id) => put_named(out, b"X\tReleaseReset", id),
+        Effect::AssertReset(id) => put_named(out, b"X\tAssertReset", id),
+        Effect::SignAttestation => put_line(out, b"X\tSignAttestation"),
+        Effect::AuthenticateUpdate => put_line(out, b"X\tAuthenticateUpdate"),
+        Effect::StageUpdate => put_line(out, b"X\tStageUpdate"),
+        Effect::ActivateUpdate => put_line(out, b"X\tActivateUpdate"),
+        Effect::DiscardStaged => put_line(out, b"X\tDiscardStaged"),
+        Effect::CommitSvnFloor(id) => put_named(out, b"X\tCommitSvnFloor", id),
+        Effect::RecoverComponent { id, attempt } => put_recover(out, id, attempt),
+        Effect::ReportIsolated(id) => put_named(out, b"X\tReportIsolated", id),
+        Effect::ReportRecoveryFailed(id) => put_named(out, b"X\tReportRecoveryFailed", id),
         Effect::ReportBootFailed {
             id,
             checkpoint,
             kind,
-        } => put_boot_failed(id, checkpoint, kind),
-        Effect::ReportUpdateDeferred => put_line(b"X\tReportUpdateDeferred"),
-        Effect::ReportUpdateAborted => put_line(b"X\tReportUpdateAborted"),
-        Effect::LatchLockdown => put_line(b"X\tLatchLockdown"),
-        Effect::Emit(_) => put_line(b"X\tEmit"),
+        } => put_boot_failed(out, id, checkpoint, kind),
+        Effect::ReportUpdateDeferred => put_line(out, b"X\tReportUpdateDeferred"),
+        Effect::ReportUpdateAborted => put_line(out, b"X\tReportUpdateAborted"),
+        Effect::LatchLockdown => put_line(out, b"X\tLatchLockdown"),
+        Effect::Emit(_) => put_line(out, b"X\tEmit"),
     }
 }
 
-fn put_awaiting(o: OptionId) {
+fn put_awaiting(out: Stdout, o: OptionId) {
     match o {
-        OptionId::None => put_line(b"S\tAwaitingReady\t-"),
-        OptionId::Some(id) => put_named(b"S\tAwaitingReady", id),
+        OptionId::None => put_line(out, b"S\tAwaitingReady\t-"),
+        OptionId::Some(id) => put_named(out, b"S\tAwaitingReady", id),
     }
 }
 
-fn put_state(state: State) {
+fn put_state(out: Stdout, state: State) {
     match state {
-        State::PowerOnReset => put_line(b"S\tPowerOnReset"),
-        State::PreSupervision => put_line(b"S\tPreSupervision"),
-        State::AwaitingReady(o) => put_awaiting(o),
-        State::Ready => put_line(b"S\tReady"),
-        State::Updating => put_line(b"S\tUpdating"),
-        State::Recovering(id) => put_named(b"S\tRecovering", id),
-        State::Locked => put_line(b"S\tLocked"),
+        State::PowerOnReset => put_line(out, b"S\tPowerOnReset"),
+        State::PreSupervision => put_line(out, b"S\tPreSupervision"),
+        State::AwaitingReady(o) => put_awaiting(out, o),
+        State::Ready => put_line(out, b"S\tReady"),
+        State::Updating => put_line(out, b"S\tUpdating"),
+        State::Recovering(id) => put_named(out, b"S\tRecovering", id),
+        State::Locked => put_line(out, b"S\tLocked"),
     }
 }
 
@@ -151,7 +166,7 @@ fn answer_to(effect: Effect) -> Reply {
 }
 
 // Answers one effect after the other until none waits. A thousand are more than any event here hands out.
-fn finish(m: Machine) -> Machine
+fn finish(out: Stdout, m: Machine) -> Machine
     requires { Valid m }
     ensures { Valid result }
 {
@@ -164,7 +179,7 @@ fn finish(m: Machine) -> Machine
                 return v;
             }
             Waiting::Handed(effect) => {
-                put_effect(effect);
+                put_effect(out, effect);
                 let c = sm::reply(v, answer_to(effect));
                 let next = c.machine;
                 v = next;
@@ -176,34 +191,34 @@ fn finish(m: Machine) -> Machine
 }
 
 // An event from its beginning to its end.
-fn drive(m: Machine, event: Event) -> Machine
+fn drive(out: Stdout, m: Machine, event: Event) -> Machine
     requires { Valid m }
     ensures { Valid result }
 {
     let c = sm::begin(m, event);
     let begun = c.machine;
-    let v = finish(begun);
-    put_state(sm::state(v));
+    let v = finish(out, begun);
+    put_state(out, sm::state(v));
     v
 }
 
 // An event is begun and its first effect left waiting: another begin is refused, and so is a reply once all is done.
-fn refuse(m: Machine) -> Machine
+fn refuse(out: Stdout, m: Machine) -> Machine
     requires { Valid m }
     ensures { Valid result }
 {
     let c = sm::begin(m, Event::AttestationChallenge);
     let begun = c.machine;
     let d = sm::begin(begun, Event::UpdateRequest);
-    io::write_all(STDOUT_FILENO, b"begin");
-    put_field(d.number);
-    put_line(b"");
+    put_bytes(out, b"begin");
+    put_field(out, d.number);
+    put_line(out, b"");
     let still = d.machine;
-    let v = finish(still);
+    let v = finish(out, still);
     let e = sm::reply(v, Reply::Done);
-    io::write_all(STDOUT_FILENO, b"reply");
-    put_field(e.number);
-    put_line(b"");
+    put_bytes(out, b"reply");
+    put_field(out, e.number);
+    put_line(out, b"");
     e.machine
 }
 
@@ -225,37 +240,37 @@ fn cards() -> ComponentList {
     list.push(a).push(b).push(c).push(d)
 }
 
-fn put_isolated(m: Machine) {
+fn put_isolated(out: Stdout, m: Machine) {
     let words = sm::isolated_words(m);
-    io::write_all(STDOUT_FILENO, b"isolated");
-    put_field(sm::isolated_count(m) as u64);
-    put_field(words[0]);
-    put_line(b"");
+    put_bytes(out, b"isolated");
+    put_field(out, sm::isolated_count(m) as u64);
+    put_field(out, words[0]);
+    put_line(out, b"");
 }
 
 // Boot, a recovery, an isolation, an update.
-fn shift(m: Machine)
+fn shift(out: Stdout, m: Machine)
     requires { Valid m }
 {
     let one = ComponentId::new(1);
-    let a = drive(m, Event::PowerGood(PowerOnResult::Provisioned));
-    let b = drive(a, Event::Timeout(one));
-    let c = drive(b, Event::Restored(one));
-    let d = drive(c, Event::Booted(one));
-    let e = drive(d, Event::CorruptionDetected(ComponentId::new(3)));
-    put_isolated(e);
-    let f = drive(e, Event::UpdateRequest);
-    let g = drive(f, Event::UpdateVerified);
-    let h = drive(g, Event::BootConfirmed(one));
-    let i = refuse(h);
-    put_state(sm::state(i));
+    let a = drive(out, m, Event::PowerGood(PowerOnResult::Provisioned));
+    let b = drive(out, a, Event::Timeout(one));
+    let c = drive(out, b, Event::Restored(one));
+    let d = drive(out, c, Event::Booted(one));
+    let e = drive(out, d, Event::CorruptionDetected(ComponentId::new(3)));
+    put_isolated(out, e);
+    let f = drive(out, e, Event::UpdateRequest);
+    let g = drive(out, f, Event::UpdateVerified);
+    let h = drive(out, g, Event::BootConfirmed(one));
+    let i = refuse(out, h);
+    put_state(out, sm::state(i));
 }
 
-fn main() {
+fn main(rt: HostRuntime) {
     let made = sm::new(cards(), 3);
     let answer = made.answer;
     if answer.number == 0 {
         let machine = made.machine;
-        shift(machine);
+        shift(rt.stdout(), machine);
     }
 }
