@@ -1,0 +1,11 @@
+-- `read` meets its contract: by the next line, or by the end of the sheet.
+use Rattle.driver.proofs.Moves.{plan-is, reads_end, reads-next}
+use Rattle.driver.proofs.read.Goals as goal
+
+pub returns-then-sheet-at : goal.returns-then-sheet-at
+returns-then-sheet-at c = λ limit. plan-is (reads_end c.requires c.if-sheet-at.true) c.tell.ensures
+
+pub returns : goal.returns
+returns c = λ limit.
+    let next = c.next_line-next in
+    plan-is (reads-next c.requires next.result next.ensures) c.read_row.ensures
