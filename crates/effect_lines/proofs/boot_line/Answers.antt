@@ -1,0 +1,13 @@
+-- `effect_lines::boot_line` meets its contract: an id has at most 3 digits, which leaves room for any number and any cause.
+use Rattle.std.proofs.Common.{rules, arith, ◌<◌, ◌^◌, length-append, append_assoc}
+use Rattle.text.proofs.Decimal.{decimal-short, decimal-below}
+use Rattle.text.proofs.Laws.{grown, exactly}
+use Rattle.effect_lines.proofs.Short.{cause-short}
+use Rattle.effect_lines.proofs.boot_line.Goals as goal
+
+pub returns : goal.returns
+returns c =
+    let a = c.args in
+    let small : a.id.0 < 10 ^ 3 = search rules in
+    exactly _ (grown (grown (grown (grown c.start.ensures c.push_number-l.ensures) c.push_number.ensures) c.push_cause.ensures) c.push.ensures) (simp append_assoc)
+    (simp length-append (omega (arith, decimal-below 2 a.id.0 small, decimal-short a.checkpoint, cause-short a.kind)))
