@@ -17,7 +17,7 @@
 // Any byte that is no digit ends a number. A number out of its range is brought into it, so that every line has an answer.
 #![tactic(auto)]
 
-ghost use Rattle.std.specs.Prelude.{◌≡◌, false, ◌-◌, ◌≤◌, ◌<◌, drop, replicate};
+ghost use Rattle.std.specs.Prelude.{◌≡◌, false, ◌-◌, ◌≤◌, ◌<◌, drop, replicate, length, IfOk};
 ghost use Rattle.isolated.specs.Flags.{flags};
 ghost use Rattle.machine.specs.View.{Fit};
 ghost use Rattle.settling.specs.View.{Valid};
@@ -26,7 +26,7 @@ ghost use Rattle.steps.specs.Hand.{Callable};
 use chain::Chain;
 use components::{Answer, ComponentList};
 use isolated::Isolated;
-use libc::{STDIN_FILENO, STDOUT_FILENO};
+use itoa::Buffer;
 use machine::{ComponentLifecycle, ComponentStatus, Rot, Work};
 use model::{
     BootFailureKind, Component, ComponentId, Effect, Event, OptionId, PowerOnResult, State,
@@ -34,6 +34,8 @@ use model::{
 use pending::Pending;
 use settling::{Dispatch, Machine, Reply, Waiting};
 use sm::Called;
+use std::io;
+use std::io::{Read, Stdin, Stdout};
 use store::{Sink, Status};
 
 // The machine of the step calls, if there is one.
@@ -262,6 +264,15 @@ fn put(out: &mut [u8], at: usize, b: u8) -> usize {
     at
 }
 
+// Puts the digits of n at the start of the text, and answers how many there are.
+fn decimal(n: u64, text: &mut [u8; 20]) -> usize {
+    let mut buffer = Buffer::new();
+    let digits = buffer.format(n).as_bytes();
+    let len = digits.len();
+    text[..len].copy_from_slice(digits);
+    len
+}
+
 // The space before a number that is not the first of its line.
 fn put_space(out: &mut [u8], at: usize) -> usize {
     if 0 < at {
@@ -273,7 +284,7 @@ fn put_space(out: &mut [u8], at: usize) -> usize {
 // One number more. That it has at most 20 digits is said again, since the loop below cannot see it from the array.
 fn put_number(out: &mut [u8], from: usize, n: u64) -> usize {
     let mut text = [0u8; 20];
-    let k = up_to(io::decimal(n, &mut text) as u64, 20);
+    let k = up_to(decimal(n, &mut text) as u64, 20);
     let mut at = put_space(out, from);
     let mut i: usize = 0;
     while i < k {
@@ -393,23 +404,28 @@ fn put_effects(out: &mut [u8], from: usize, sink: Sink) -> usize {
     at
 }
 
-// The first `len` bytes of a line, and its end. The longest answer, of 255 components and 511 effects, has fewer than
-// 10,300 bytes, so that the callers' 16,384 hold every one.
-fn write_line(out: &[u8], len: usize) {
-    let n = up_to(len as u64, out.len());
-    io::write_all(STDOUT_FILENO, &out[..n]);
-    io::write_all(STDOUT_FILENO, b"\n");
+// What stands in the text goes out. A write that fails is passed over.
+fn put_bytes(to: Stdout, text: &[u8]) {
+    let _ = to.write_all(text);
 }
 
-fn write_answer(a: Answer) {
+// The first `len` bytes of a line, and its end. The longest answer, of 255 components and 511 effects, has fewer than
+// 10,300 bytes, so that the callers' 16,384 hold every one.
+fn write_line(to: Stdout, out: &[u8], len: usize) {
+    let n = up_to(len as u64, out.len());
+    put_bytes(to, &out[..n]);
+    put_bytes(to, b"\n");
+}
+
+fn write_answer(to: Stdout, a: Answer) {
     let mut out = [0u8; 16384];
     let x = put_number(&mut out, 0, a.number);
     let y = put_number(&mut out, x, a.place);
     let z = put_number(&mut out, y, a.other);
-    write_line(&out, z);
+    write_line(to, &out, z);
 }
 
-fn write_machine(w: Work, n: usize)
+fn write_machine(to: Stdout, w: Work, n: usize)
     requires { n ≤ 255 }
 {
     let state = w.state;
@@ -423,15 +439,15 @@ fn write_machine(w: Work, n: usize)
     );
     let body = put_statuses(&mut out, head, rot, n);
     let end = put_effects(&mut out, body, sink);
-    write_line(&out, end);
+    write_line(to, &out, end);
 }
 
 // One case: the machine that it sets up takes one step.
-fn answer_case(ns: &[u64]) {
+fn answer_case(to: Stdout, ns: &[u64]) {
     let list = list_of(ns, 1);
     let v = list.verdict();
     if v.is_refused() {
-        write_answer(v.answer());
+        write_answer(to, v.answer());
         return;
     }
     let chain = Chain::of(list);
@@ -441,7 +457,7 @@ fn answer_case(ns: &[u64]) {
     let kept = machine_at(ns, at + 2, n);
     let event = event_at(ns, at + 4 + 4 * n);
     let w = rot::step(chain, byte_at(ns, 0), state, kept, Sink::new(), event);
-    write_machine(w, n);
+    write_machine(to, w, n);
 }
 
 fn lifecycle_number(l: ComponentLifecycle) -> u64 {
@@ -494,7 +510,7 @@ fn put_rest(out: &mut [u8], from: usize, m: Machine) -> usize {
     }
 }
 
-fn write_call(number: u64, effect: Waiting, m: Machine) {
+fn write_call(to: Stdout, number: u64, effect: Waiting, m: Machine) {
     let rot = m.work.rot;
     let mut out = [0u8; 16384];
     let a = put_number(&mut out, 0, number);
@@ -503,17 +519,17 @@ fn write_call(number: u64, effect: Waiting, m: Machine) {
     let c = put_row(&mut out, b, row);
     let d = put_number(&mut out, c, sm::isolated_count(m) as u64);
     let e = put_rest(&mut out, d, m);
-    write_line(&out, e);
+    write_line(to, &out, e);
 }
 
 // The call is answered, and its machine is kept.
-fn keep_called(called: Called) -> Machine
+fn keep_called(to: Stdout, called: Called) -> Machine
     requires { Valid called.machine }
     ensures { Valid result }
 {
     let m = called.machine;
     let effect = called.effect;
-    write_call(called.number, effect, m);
+    write_call(to, called.number, effect, m);
     m
 }
 
@@ -594,16 +610,16 @@ fn fail_planted(ns: &[u64], m: Machine) -> Machine
 }
 
 // A failed reply whose failure is planted. Where no effect waits it is refused as any reply is.
-fn answer_planted(ns: &[u64], m: Machine) -> Machine
+fn answer_planted(to: Stdout, ns: &[u64], m: Machine) -> Machine
     requires { Valid m }
     ensures { Valid result }
 {
     let waiting = sm::waiting(m);
     match waiting {
-        Waiting::Nothing => keep_called(sm::reply(m, Reply::Failed)),
+        Waiting::Nothing => keep_called(to, sm::reply(m, Reply::Failed)),
         Waiting::Handed(_) => {
             let v = fail_planted(ns, m);
-            write_call(0, sm::waiting(v), v);
+            write_call(to, 0, sm::waiting(v), v);
             v
         }
     }
@@ -618,87 +634,87 @@ fn reply_of(ns: &[u64]) -> Reply {
 }
 
 // A call on the machine m.
-fn call(ns: &[u64], m: Machine) -> Machine
+fn call(to: Stdout, ns: &[u64], m: Machine) -> Machine
     requires { Valid m }
     ensures { Valid result }
 {
     let kind = number_at(ns, 0);
     if kind == 257 {
-        return keep_called(sm::begin(m, event_at(ns, 1)));
+        return keep_called(to, sm::begin(m, event_at(ns, 1)));
     }
     if kind < 261 {
-        return keep_called(sm::reply(m, reply_of(ns)));
+        return keep_called(to, sm::reply(m, reply_of(ns)));
     }
     if kind == 261 {
         let v = set_up(ns, m);
-        write_call(0, Waiting::Nothing, v);
+        write_call(to, 0, Waiting::Nothing, v);
         return v;
     }
-    answer_planted(ns, m)
+    answer_planted(to, ns, m)
 }
 
 // The machine of a list. A refused list leaves none at hand.
-fn answer_new(ns: &[u64]) -> Kept
+fn answer_new(to: Stdout, ns: &[u64]) -> Kept
     ensures { Callable result }
 {
     let made = sm::new(list_of(ns, 2), byte_at(ns, 1));
     let a = made.answer;
     let machine = made.machine;
-    write_answer(a);
+    write_answer(to, a);
     Kept {
         has: a.number == 0,
         machine: machine,
     }
 }
 
-fn answer_call(ns: &[u64], kept: Kept) -> Kept
+fn answer_call(to: Stdout, ns: &[u64], kept: Kept) -> Kept
     requires { Callable kept }
     ensures { Callable result }
 {
     if number_at(ns, 0) == 256 {
-        return answer_new(ns);
+        return answer_new(to, ns);
     }
     if kept.has {
         let m = kept.machine;
         return Kept {
             has: true,
-            machine: call(ns, m),
+            machine: call(to, ns, m),
         };
     }
-    io::write_all(STDOUT_FILENO, b"99\n");
+    put_bytes(to, b"99\n");
     kept
 }
 
-fn answer(ns: &[u64], kept: Kept) -> Kept
+fn answer(to: Stdout, ns: &[u64], kept: Kept) -> Kept
     requires { Callable kept }
     ensures { Callable result }
 {
     if number_at(ns, 0) < 256 {
-        answer_case(ns);
+        answer_case(to, ns);
         return kept;
     }
-    answer_call(ns, kept)
+    answer_call(to, ns, kept)
 }
 
 // The line of the first numbers alone: what stands past them is of an earlier line.
-fn answer_first(numbers: &[u64], count: usize, kept: Kept) -> Kept
+fn answer_first(to: Stdout, numbers: &[u64], count: usize, kept: Kept) -> Kept
     requires { Callable kept }
     ensures { Callable result }
 {
     let n = up_to(count as u64, numbers.len());
-    answer(&numbers[..n], kept)
+    answer(to, &numbers[..n], kept)
 }
 
 // A line has ended. It is lent as an array, whose length its type shows, so that the loop need not show it.
-fn end_line(numbers: &[u64; 2400], count: usize, kept: Kept) -> Kept
+fn end_line(to: Stdout, numbers: &[u64; 2400], count: usize, kept: Kept) -> Kept
     requires { Callable kept }
     ensures { Callable result }
 {
-    answer_first(numbers, count, kept)
+    answer_first(to, numbers, count, kept)
 }
 
 // The bytes of a chunk, one after the other. A number past the room of a line is dropped.
-fn feed(line: Line, chunk: &[u8]) -> Line
+fn feed(to: Stdout, line: Line, chunk: &[u8]) -> Line
     requires { Callable line.kept }
     ensures { Callable result.kept }
 {
@@ -719,7 +735,7 @@ fn feed(line: Line, chunk: &[u8]) -> Line
             at.number = cases::with_digit(at.number, (b % 48) as u64);
         }
         if b == 10 {
-            kept = end_line(&at.numbers, at.count, kept);
+            kept = end_line(to, &at.numbers, at.count, kept);
             at.count = 0;
         }
     }
@@ -739,22 +755,39 @@ fn none_kept() -> Kept
     }
 }
 
+// Reads until the buffer is full or the input ends, and answers how many bytes there are.
+fn read_full(from: Stdin, buf: &mut [u8]) -> io::Result<usize>
+    ensures { IfOk result (λ n. n ≤ length buf.new) }
+{
+    let mut input = from;
+    let mut done: usize = 0;
+    while done < buf.len() {
+        let n = input.read(&mut buf[done..])?;
+        if n == 0 {
+            return Ok(done);
+        }
+        done += n;
+    }
+    Ok(done)
+}
+
 // At most 65,536 chunks, so that the program ends whatever it is fed.
-fn main() {
+fn main(rt: HostRuntime) -> io::Result<()> {
     let mut line = Line {
         numbers: [0u64; 2400],
         count: 0,
         number: 0,
         kept: none_kept(),
     };
-    let mut chunk = io::large_buffer();
+    let mut chunk = [0u8; 65536];
     let mut turn: usize = 0;
     while turn < 65536 {
-        let n = io::read_full(STDIN_FILENO, &mut chunk);
+        let n = read_full(rt.stdin(), &mut chunk)?;
         if n == 0 {
-            return;
+            return Ok(());
         }
-        line = feed(line, &chunk[..n]);
+        line = feed(rt.stdout(), line, &chunk[..n]);
         turn += 1;
     }
+    Ok(())
 }

@@ -1,9 +1,5 @@
 -- `set_up` gives a valid machine: the chain is that of a valid one, what is kept fits it, and nothing waits.
-use borrow.Author.Rules.{rules}
-use mathlib.Core.Path.{◌≡◌, refl, sym, subst}
-use mathlib.Core.Bool.{false}
-use Prim.Native.Nat.{ℕ}
-use native.Mathlib.Omega.{arith}
+use Rattle.std.proofs.Common.{arith, ◌≡◌, ℕ, false, refl, sym, subst}
 use Rattle.model.specs.declared.State.{State}
 use Rattle.store.specs.declared.Sink.{Sink}
 use Rattle.store.specs.Sink.{empty_sink, held}
@@ -16,8 +12,7 @@ use Rattle.entry.proofs.Compose.{fit_at}
 use Rattle.settling.specs.declared.Machine.{Machine}
 use Rattle.settling.specs.declared.Waiting.TheVariants.{Nothing}
 use Rattle.settling.specs.View.{view, Valid}
-use Rattle.steps.proofs.set_up.Statement.{statement}
-use Rattle.steps.proofs.set_up.Tie as tie
+use Rattle.steps.proofs.set_up.Goals as goal
 
 abbrev laid : Machine → ℕ → State → Rot → Sink → Pending → Machine
 laid m max st r b q = record { chain = m.chain; max_retry = max; work = record { state = st; rot = r; sink = b }; dispatch = record { next = 0; waiting = Nothing; pending = q; failed = false } }
@@ -38,34 +33,5 @@ laid-valid m max st r b q v f eb eq =
     subst (λ (x : Sink). Valid (laid m max st r x q)) (sym eb)
     (subst (λ (y : Pending). Valid (laid m max st r empty_sink y)) (sym eq) (empty-valid m max st r v f))
 
-count-requires : tie.Need-count-requires
-count-requires c κs = search rules
-
-machine-at-requires : tie.Need-machine-at-requires
-machine-at-requires c κs = search rules
-
-state-at-requires : tie.Need-state-at-requires
-state-at-requires c κs = search rules
-
-new-requires : tie.Need-new-requires
-new-requires c κs = search rules
-
-new-requires-2 : tie.Need-new-requires-2
-new-requires-2 c κs = search rules
-
-returns : tie.Need-returns
-returns c =
-    let k = c.before.before.before in
-    let n = k.before in
-    laid-valid _ _ _ _ _ _ n.before.before.before.requires (fit_at (sym n.count.ensures.0) k.machine-at.ensures) c.before.new.ensures c.new2.ensures
-
-pub set-up-spec : {M : Type 1} → statement M
-set-up-spec =
-    tie.close
-    (tie.spec
-    count-requires
-    machine-at-requires
-    state-at-requires
-    new-requires
-    new-requires-2
-    returns)
+pub returns : goal.returns
+returns c = laid-valid _ _ _ _ _ _ c.requires (fit_at (sym c.count-n.ensures.0) c.machine_at-rot.ensures) c.new.ensures c.new-2.ensures

@@ -1,19 +1,10 @@
 -- `fail_planted` gives a valid machine: whatever is queued, it is at most 8 events, and settling ends at rest.
-use borrow.Author.Rules.{rules}
-use denote.Laws.{Is}
-use denote.Struct.Laws as LL
-use mathlib.Core.Path.{◌≡◌, sym, subst, ap, ◌∙◌}
-use mathlib.Core.List.{List, [], ◌∷◌}
-use Prim.Native.Nat.{◌≤◌}
-use native.Mathlib.Omega.{arith}
-use lib.ListN.{length}
+use Rattle.std.proofs.Common.{rules, arith, ◌≡◌, ◌≤◌, List, length, sym, subst, ap, ◌∙◌}
 use Rattle.model.specs.declared.Effect.{Effect}
 use Rattle.model.proofs.Arrays.{unmap}
 use Rattle.pending.specs.declared.Pending.{Pending}
 use Rattle.pending.specs.Queue.{events}
 use Rattle.pending.proofs.Laws.{events-length}
-use Rattle.pending.specs.contracts.Pending as P
-use Rattle.pending.proofs.Pending.TheLaws as P'
 use Rattle.settling.specs.declared.Dispatch.{Dispatch}
 use Rattle.settling.specs.declared.Machine.{Machine}
 use Rattle.settling.specs.declared.Reply.TheVariants.{Failed}
@@ -24,14 +15,7 @@ use Rattle.settling.proofs.Ends.{settle-ends}
 use Rattle.settling.specs.Parts.{Moves}
 use Rattle.settling.proofs.Views.{puts, pends, moves-becomes, view-waiting, view-few}
 use Rattle.sm.proofs.Stepping.{replied-idle}
-use Rattle.steps.proofs.fail_planted.Statement.{statement}
-use Rattle.steps.proofs.fail_planted.Tie as tie
-
-abbrev Owned : Pending → Type 0
-Owned q = Is P.the_row q (LL.val P.the_type P'.the_laws q ∷ [])
-
-few : (q : Pending) → Owned q → length (events q) ≤ 8
-few q p = let full : length q.entries ≡ 8 = search (rules, unmap) in omega (arith, events-length q full)
+use Rattle.steps.proofs.fail_planted.Goals as goal
 
 module _ (m : Machine) (w : Whole m) (d : Dispatch) (q : Pending) (failed : Moves m.work.sink.len (λ es x. replied Failed (waiting_is Nothing x)) m.dispatch d) (h : length (events q) ≤ 8) where
   abbrev planted : Machine
@@ -51,30 +35,14 @@ module _ (m : Machine) (w : Whole m) (d : Dispatch) (q : Pending) (failed : Move
     rests = subst Rests (sym b.machine) (settle-ends (chain_of planted) planted.max_retry (view planted) planted-idle (view-few planted planted-whole)).0;
   }
 
-replied-requires : tie.Need-replied-requires
-replied-requires c κs = c.before.before.requires.whole.few
+pub settle-requires : goal.settle-requires
+settle-requires c =
+    let q = c.planted-queue.result in
+    let full : length q.entries ≡ 8 = search (rules, unmap) in
+    planted-whole c.args.m c.requires.whole c.replied-after.result q c.replied-after.ensures (omega (arith, events-length q full))
 
-planted-requires : tie.Need-planted-requires
-planted-requires c κs = search rules
-
-settle-requires : tie.Need-settle-requires
-settle-requires c κs =
-    let v = c.before.before.replied in
-    let s = c.before.before.before.before.before in
-    planted-whole s.args.m s.requires.whole v.result c.planted.result v.ensures (few c.planted.result c.planted.type-inv)
-
-returns : tie.Need-returns
+pub returns : goal.returns
 returns c =
-    let p = c.before in
-    let v = p.before.before.replied in
-    let s = c.before.before.before.before.before.before in
-    settled s.args.m s.requires.whole v.result p.planted.result v.ensures (few p.planted.result p.planted.type-inv) c.settle.result c.settle.ensures
-
-pub fail-planted-spec : {M : Type 1} → statement M
-fail-planted-spec =
-    tie.close
-    (tie.spec
-    replied-requires
-    planted-requires
-    settle-requires
-    returns)
+    let q = c.planted-queue.result in
+    let full : length q.entries ≡ 8 = search (rules, unmap) in
+    settled c.args.m c.requires.whole c.replied-after.result q c.replied-after.ensures (omega (arith, events-length q full)) c.settle.result c.settle.ensures
