@@ -1,0 +1,88 @@
+-- `step` meets its contract: the table of numbers is the table of rules, for whomever the event is about, and at
+-- most 2N+1 effects fit into a sink of length 0, so that it holds them all.
+use Rattle.std.proofs.Common.{◌≡◌, ℕ, ◌≤◌, ◌<◌, List, ◌++◌, length, refl, sym, ap, ◌∙◌, arith, rules}
+use Rattle.model.specs.declared.Effect.{Effect}
+use Rattle.model.specs.declared.State.{State}
+use Rattle.model.specs.declared.Event.{Event}
+use Rattle.model.proofs.Arrays.{unmap}
+use Rattle.components.specs.Chain.{position, id_at, Sound}
+use Rattle.components.proofs.Lookup.{own-place}
+use Rattle.chain.specs.declared.Chain.{Chain}
+use Rattle.chain.specs.Tables.{entries, size}
+use Rattle.chain.proofs.Room.{all-kept, few}
+use Rattle.store.specs.declared.Sink.{Sink}
+use Rattle.store.specs.Sink.{held}
+use Rattle.store.proofs.Laws.{none-held}
+use Rattle.machine.specs.declared.Rot.{Rot}
+use Rattle.machine.specs.declared.Work.{Work}
+use Rattle.machine.specs.View.{core_of, Ran}
+use Rattle.machine.proofs.Laws.{length-statuses}
+use Rattle.machine.proofs.Says.{says-held}
+use Rattle.machine.proofs.Runs.{ran-as}
+use Rattle.rot.specs.Stepped.{bare, outcome, Stepped}
+use Rattle.rot.proofs.Bound.{step-bound}
+use Rattle.rot.proofs.Named.{busy-inside, step-inside}
+use Rattle.rot.proofs.Idle.{idle-stepped}
+use Rattle.rot.proofs.step.Goals as goal
+
+-- An accepted chain has a first component.
+some : (c : Chain) → length c.list.entries ≡ 255 → Sound c.list.len (entries c) → 0 < length (entries c)
+some c full sound = omega (arith, all-kept c full sound.few, sound.some)
+
+first : (c : Chain) → length c.list.entries ≡ 255 → Sound c.list.len (entries c) → position (entries c) (id_at (entries c) 0) < length (entries c)
+first c full sound = omega (arith, some c full sound, own-place c.list.len (entries c) sound 0 (some c full sound))
+
+-- What is run on a sink of length 0 holds all that the definition says.
+stepped : (c : Chain) (max : ℕ) (s : State) (rot : Rot) (e : Event) → length c.list.entries ≡ 255 → Sound c.list.len (entries c)
+    → length rot.statuses ≡ 255 → length rot.isolated.words ≡ 4 → (k : Sink) → k.len ≡ 0 → length k.effects ≡ 512 → (r : Work)
+    → Ran (size c) (record { state = s; rot = rot; sink = k }) (outcome c max (bare s rot) e) r → Stepped c max (bare s rot) e r
+stepped c max s rot e full sound statuses words k z slots r d =
+    let ch = entries c in
+    let n : length ch ≤ 255 = few c.list full in
+    let now = bare s rot in
+    let said = (outcome c max now e).said in
+    let most = step-bound ch max (core_of (size c) now) e (some c full sound) (length-statuses (size c) rot n statuses words) in
+    let all = says-held k said slots (omega arith) in
+    let count = ap (λ (x : Sink). x.len) d.sink ∙ all.1 in
+    record {
+      core = d.core;
+      effects = ap held d.sink ∙ all.0 ∙ ap (λ (es : List Effect). es ++ said) (none-held k z);
+      count = omega (arith, count);
+      few = omega (arith, count);
+      fit = d.fit;
+    }
+
+pub returns-then-idles : goal.returns-then-idles
+returns-then-idles c =
+    let a = c.args in
+    let answered = c.idles.ensures.1 a.chain refl c.requires.charted c.count-n.ensures.0 in
+    idle-stepped a.chain a.max_retry a.state a.rot a.event c.requires.fit (sym answered ∙ c.if-idles.true) _ refl
+
+pub apply-requires : goal.apply-requires
+apply-requires c =
+    let a = c.args in
+    let ch = entries a.chain in
+    let full : length a.chain.list.entries ≡ 255 = search (rules, unmap) in
+    let answered = c.idles.ensures.1 a.chain refl c.requires.charted c.count-n.ensures.0 in
+    let within = busy-inside ch a.state a.event (id_at ch 0) (first a.chain full c.requires.sound) (sym answered ∙ c.if-idles.false) in
+    record {
+      sane = record { charted = c.requires.charted; sound = c.requires.sound; fit = c.requires.fit };
+      here = c.position-p.ensures;
+      inside = omega (arith, within, ap (position ch) c.about-id.ensures, c.position-p.ensures);
+    }
+
+pub returns : goal.returns
+returns c =
+    let a = c.args in
+    let ch = entries a.chain in
+    let full : length a.chain.list.entries ≡ 255 = search (rules, unmap) in
+    let statuses : length a.rot.statuses ≡ 255 = search (rules, unmap) in
+    let words : length a.rot.isolated.words ≡ 4 = search rules in
+    let slots : length a.sink.effects ≡ 512 = search (rules, unmap) in
+    let answered = c.idles.ensures.1 a.chain refl c.requires.charted c.count-n.ensures.0 in
+    let busy = busy-inside ch a.state a.event (id_at ch 0) (first a.chain full c.requires.sound) (sym answered ∙ c.if-idles.false) in
+    let within : position ch c.about-id.result < length ch = omega (arith, busy, ap (position ch) c.about-id.ensures) in
+    stepped a.chain a.max_retry a.state a.rot a.event full c.requires.sound statuses words _ refl slots _
+    (ran-as
+    (step-inside ch a.max_retry (core_of (size a.chain) (bare a.state a.rot)) a.event (id_at ch 0) c.about-id.result c.rule_number-rule.result c.about-id.ensures c.rule_number-rule.ensures.0 within)
+    c.apply.ensures)
