@@ -1,0 +1,39 @@
+-- `next_line` meets its contract: the line ends at the first byte 10 of what stands from `at` on, or it is not ended.
+use mathlib.Core.Path.{sym, ap, ◌∙◌}
+use native.Mathlib.Omega.{arith}
+use lib.ListN.{length, length-drop}
+use lib.Seq.{length-take-le}
+use Rattle.fields.proofs.Scan.{place-bound, to_the_end}
+use Rattle.reader.proofs.Rows.{reads-line, reads-open}
+use Rattle.reader.proofs.next_line.Goals as goal
+
+pub returns-then-n-m : goal.returns-then-n-m
+returns-then-n-m c =
+    let s = c.args.sheet.now in
+    let at = c.args.at in
+    reads-open s at (omega arith) _ (to_the_end s at) _ c.place-n.ensures c.if-n-m.true
+
+pub slice_bounds-read_line-end : goal.slice_bounds-read_line-end
+slice_bounds-read_line-end c = sym (length-take-le _ _ (place-bound _ _ _ c.place-n.ensures))
+
+pub overflow_add-result : goal.overflow_add-result
+overflow_add-result c =
+    let s = c.args.sheet.now in
+    let at = c.args.at in
+    let m = to_the_end s at in
+    let long = ap length m ∙ length-drop at s in
+    omega (arith, place-bound _ _ _ c.place-n.ensures)
+
+pub overflow_add-result-2 : goal.overflow_add-result-2
+overflow_add-result-2 c =
+    let s = c.args.sheet.now in
+    let at = c.args.at in
+    let m = to_the_end s at in
+    let long = ap length m ∙ length-drop at s in
+    omega (arith, place-bound _ _ _ c.place-n.ensures)
+
+pub returns : goal.returns
+returns c =
+    let s = c.args.sheet.now in
+    let at = c.args.at in
+    reads-line s at (omega arith) _ (to_the_end s at) _ c.place-n.ensures c.if-n-m.false _ c.read_line.ensures
