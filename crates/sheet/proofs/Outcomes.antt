@@ -2,18 +2,16 @@
 use mathlib.Core.Path.{◌≡◌, refl, sym, ap, ◌∙◌}
 use mathlib.Core.Bool.{Bool, true, false}
 use mathlib.Core.List.{List, []}
-use Prim.Native.Nat.{ℕ, ◌≤◌}
+use Prim.Native.Nat.{ℕ}
 use native.Mathlib.Omega.{arith}
 use borrow.Author.Tests.{eq-eqb, ne_eqb}
 use lib.Dec.{eqb}
 use lib.ListN.{length}
 use Rattle.model.specs.Vocabulary.{pick}
-use Rattle.model.specs.declared.Component.{Component}
 use Rattle.components.specs.declared.Answer as C
 use Rattle.components.specs.declared.ComponentList.{ComponentList}
 use Rattle.components.specs.declared.Verdict.{Verdict}
 use Rattle.components.specs.declared.Verdict.TheVariants.{Accepted, Refused}
-use Rattle.components.specs.declared.ChainError.{ChainError}
 use Rattle.components.specs.declared.ChainError.TheVariants.{Empty, TooLong, DuplicateId, UnknownDependency, ForwardDependency}
 use Rattle.components.specs.Chain.{entries_of, no_entries, verdict_of, answer_of}
 use Rattle.text.specs.Lines.{over}
@@ -21,11 +19,11 @@ use Rattle.settling.specs.declared.Machine.{Machine}
 use Rattle.sm.specs.Calls.{start_of}
 use Rattle.sm.specs.Gives.{Fresh}
 use Rattle.reader.specs.declared.Sheet.{Sheet}
-use Rattle.reader.specs.Read.{rows_in, bad_line, retry_in, cards_in, pushed_all, Whole}
+use Rattle.reader.specs.Read.{rows_in, bad_line, cards_in, pushed_all, Whole}
 use Rattle.reader.proofs.Kept.{kept-cards, kept-verdict}
 use Rattle.reader.proofs.Left.{retry-whole, list-whole}
 use Rattle.driver.specs.declared.End.{End}
-use Rattle.driver.specs.Run.{Entry, Setting, Point, Progress, transcript, start_point, run_from}
+use Rattle.driver.specs.Run.{Entry, Progress, transcript, start_point, run_from}
 use Rattle.driver.specs.Seen.{run_on, Ran}
 use Rattle.sheet.specs.declared.Answer.{Answer}
 use Rattle.sheet.specs.Sheet.{chain_in, verdict_in, Outcome, check_of, progress_of, ended, run_of, numbers_of, RunGives}

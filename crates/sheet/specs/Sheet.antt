@@ -1,12 +1,12 @@
 -- Section 5 and questions 1 to 9: what `check` and `run` answer to a sheet.
-use Rattle.std.specs.Prelude.{◌≡◌, Bool, false, List, [], ℕ, ◌≤◌, eqb, length, take}
+use Rattle.std.specs.Prelude.{◌≡◌, false, List, [], ℕ, ◌≤◌, eqb, length, take}
 use Rattle.model.specs.Vocabulary.{pick}
 use Rattle.model.specs.declared.Component.{Component}
 use Rattle.components.specs.declared.Verdict.{Verdict}
 use Rattle.components.specs.Chain.{verdict_of, answer_of}
 use Rattle.text.specs.Lines.{over}
 use Rattle.reader.specs.Read.{rows_in, bad_line, retry_in, cards_in}
-use Rattle.driver.specs.Run.{Entry, transcript, Setting, Point, Progress, start_point, run_from}
+use Rattle.driver.specs.Run.{Entry, transcript, Progress, start_point, run_from}
 use Rattle.sheet.specs.declared.Answer.{Answer}
 
 -- The chain: the components of the C lines. Of more than 255, which question 3 refuses, the first 255 are kept.

@@ -1,4 +1,4 @@
-// What the board calls: `check` and `run` of a sheet, and the same two for C.
+// What the board calls: `check` and `run` of a sheet. The crate sheet_c offers the same two to C.
 #![tactic(auto)]
 
 ghost use Rattle.std.specs.Prelude.{◌≡◌, length};
@@ -69,20 +69,4 @@ pub fn run(sheet: &[u8], out: &mut [u8], limit: u64) -> Answer
         written: end.written as u64,
         settled: end.settled,
     }
-}
-
-// `check` for C.
-#[unsafe(no_mangle)]
-pub extern "C" fn mallardtray_check(sheet: &[u8]) -> Answer
-    ensures { result ≡ numbers_of (check_of sheet.now) }
-{
-    check(sheet)
-}
-
-// `run` for C.
-#[unsafe(no_mangle)]
-pub extern "C" fn mallardtray_run(sheet: &[u8], out: &mut [u8], limit: u64) -> Answer
-    ensures { RunGives sheet.now out.old limit result out.new }
-{
-    run(sheet, out, limit)
 }
