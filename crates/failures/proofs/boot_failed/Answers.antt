@@ -1,4 +1,5 @@
 -- `boot_failed` meets its contract: the report, and then each arm is told which kind it is.
+use Rattle.std.proofs.Common.{rules}
 use borrow.Author.Tests.{not-true, not-false}
 use Rattle.machine.specs.View.{core_of}
 use Rattle.entry.proofs.Now.{awaits-now}
@@ -36,7 +37,7 @@ returns-in-DeviceRetriable c =
     let again = recover ch (before a.situation) a.id in
     let rule = corrupt ch (follows a.situation ch) (before a.situation) a.id in
     ran-as (reported-as ch (follows a.situation ch) (before a.situation) a.id a.failure.checkpoint a.failure.kind now (again now) waits (kind-retriable (again now) (rule now) a.failure.kind c.in-DeviceRetriable.is))
-    (ran_then again (ran-say (ReportBootFailed a.id a.failure.checkpoint a.failure.kind) (ran-none c.requires.sane.fit) c.say-v.ensures) c.start_recovery-in-DeviceRetriable.ensures)
+    (ran_then again (ran-say (ReportBootFailed a.id a.failure.checkpoint a.failure.kind) (ran-none c.requires.sane.fit) c.say-v.ensures) (search rules))
 
 pub returns-in-DeviceFatal : goal.returns-in-DeviceFatal
 returns-in-DeviceFatal c =
@@ -47,4 +48,4 @@ returns-in-DeviceFatal c =
     let again = recover ch (before a.situation) a.id in
     let rule = corrupt ch (follows a.situation ch) (before a.situation) a.id in
     ran-as (reported-as ch (follows a.situation ch) (before a.situation) a.id a.failure.checkpoint a.failure.kind now (rule now) waits (kind-fatal (again now) (rule now) a.failure.kind c.in-DeviceFatal.is))
-    (ran_then rule (ran-say (ReportBootFailed a.id a.failure.checkpoint a.failure.kind) (ran-none c.requires.sane.fit) c.say-v.ensures) c.handle_corruption.ensures)
+    (ran_then rule (ran-say (ReportBootFailed a.id a.failure.checkpoint a.failure.kind) (ran-none c.requires.sane.fit) c.say-v.ensures) (search rules))
