@@ -7,7 +7,9 @@ use Rattle.pending.proofs.Pending.front.Goals as goal
 
 pub returns-then-n-eq0 : goal.returns-then-n-eq0
 unfolding events
-returns-then-n-eq0 c = rw c.if-n-eq0.true
+returns-then-n-eq0 c =
+    let none : c.args.self.len ≡ 0 = omega arith in
+    rw none
 
 pub returns : goal.returns
 unfolding events
