@@ -1,5 +1,5 @@
 -- `number` meets its contract: the first byte decides which rule the text goes by.
-use Rattle.std.proofs.Common.{sym, ◌∙◌}
+use Rattle.std.proofs.Common.{arith, sym, ◌∙◌}
 use Rattle.fields.proofs.Numbers.{number-none, number-zero, number-led, number_digits}
 use Rattle.fields.proofs.number.Goals as goal
 
@@ -7,10 +7,16 @@ pub returns-then-f-eq0 : goal.returns-then-f-eq0
 returns-then-f-eq0 c = sym (number-none _ _ c.if-f-eq0.true)
 
 pub returns-then-f-eq1 : goal.returns-then-f-eq1
-returns-then-f-eq1 c = sym (number-zero _ _ c.if-f-eq48.true c.if-f-eq1.true)
+returns-then-f-eq1 c =
+    let a = c.args in
+    sym (number-zero a.most a.f.now (omega arith) (omega arith))
 
 pub returns-then-f-eq48 : goal.returns-then-f-eq48
-returns-then-f-eq48 c = sym (number-led _ _ c.if-f-eq48.true c.if-f-eq1.false)
+returns-then-f-eq48 c =
+    let a = c.args in
+    sym (number-led a.most a.f.now (omega arith) (λ e. omega arith))
 
 pub returns : goal.returns
-returns c = c.digits.ensures ∙ sym (number_digits _ _ c.if-f-eq0.false c.if-f-eq48.false)
+returns c =
+    let a = c.args in
+    c.digits.ensures ∙ sym (number_digits a.most a.f.now c.if-f-eq0.false (λ e. omega arith))
