@@ -14,69 +14,54 @@ use store::Status;
 
 // The cursor goes to the first component from p on that is not isolated. Its firmware is read and verified next; where
 // there is none the chain has ended.
-pub fn advance_to_next_ungated(chain: Chain, w: Work, p: usize) -> Work
+pub fn advance_to_next_ungated(chain: Chain, mut w: Work, p: usize) -> Work
     requires { (p ≤ size chain) × (Fit (size chain) w.rot) }
     ensures { Does (size chain) w (advancing (entries chain) p) result }
 {
     let n = chain.count();
-    let mut rot = w.rot;
-    let isolated = rot.isolated;
-    let next = isolated.next_free(p, n);
-    rot.cursor = next;
-    let v = machine::with_rot(w, rot);
+    let next = w.rot.isolated.next_free(p, n);
+    w.rot.cursor = next;
     if next < n {
         let id = chain.id_at(next);
-        let read = machine::say(v, Effect::ReadFirmware(id));
-        return machine::say(read, Effect::VerifyFirmware(id));
+        w.sink.emit(Effect::ReadFirmware(id));
+        w.sink.emit(Effect::VerifyFirmware(id));
     }
-    v
+    w
 }
 
 // A component that runs is held in reset, and both its flags go off. The others are in reset already.
-fn quiet_one(chain: Chain, w: Work, p: usize) -> Work
+fn quiet_one(chain: Chain, mut w: Work, p: usize) -> Work
     requires { (p < size chain) × (Fit (size chain) w.rot) }
     ensures { Does (size chain) w (quieting (entries chain) p) result }
 {
-    let n = chain.count();
-    let rot = w.rot;
-    let s = machine::status_at(rot, n, p);
-    if s.released {
-        let id = chain.id_at(p);
-        let off = Status {
-            retry: s.retry,
+    if w.rot.statuses[p].released {
+        w.rot.statuses[p] = Status {
             awaiting_boot: false,
             released: false,
+            ..w.rot.statuses[p]
         };
-        let v = machine::put_status(w, n, p, off);
-        return machine::say(v, Effect::AssertReset(id));
+        w.sink.emit(Effect::AssertReset(chain.id_at(p)));
     }
     w
 }
 
 // Nothing runs any more: in chain order every released component is held in reset.
-pub fn quiesce_all(chain: Chain, w: Work) -> Work
+pub fn quiesce_all(chain: Chain, mut w: Work) -> Work
     requires { Fit (size chain) w.rot }
     ensures { Does (size chain) w (quieting_all (entries chain)) result }
 {
-    let n = chain.count();
-    let mut v = w;
-    let mut i = 0;
-    while i < n {
-        v = quiet_one(chain, v, i);
-        i += 1;
+    for p in 0..chain.count() {
+        w = quiet_one(chain, w, p);
     }
-    v
+    w
 }
 
 // Entering Ready: every retry count starts again. The counts past the chain are cleared with the others, since nobody
 // reads them.
-pub fn clear_all_retries(w: Work, n: usize) -> Work
+pub fn clear_all_retries(mut w: Work, n: usize) -> Work
     requires { Fit n w.rot }
     ensures { Does n w clearing result }
 {
-    let mut rot = w.rot;
-    let statuses = rot.statuses;
-    let none = store::cleared(statuses);
-    rot.statuses = none;
-    machine::with_rot(w, rot)
+    store::clear_retries(&mut w.rot.statuses);
+    w
 }

@@ -1,4 +1,6 @@
 -- A cascade stays within the chain, holds its root and is closed under direct dependents: each level stands later than the one before, so that as many levels as there are components reach the end.
+use Rattle.std.specs.Prelude.{Option, None, Some}
+use Rattle.model.specs.declared.ComponentId.{ComponentId}
 use mathlib.Core.Path.{◌≡◌, refl, sym, ◌∙◌, ap}
 use mathlib.Core.Logic.{◌⊎◌, inl, inr, ⊎_elim}
 use mathlib.Core.List.Memᴰ
@@ -9,8 +11,6 @@ use lib.Dec.{eqb}
 use lib.ListN.{length}
 use borrow.Author.Tests.{eqb-true, eqb-false}
 use Rattle.model.specs.declared.Component.{Component}
-use Rattle.model.specs.declared.OptionId.{OptionId}
-use Rattle.model.specs.declared.OptionId.TheVariants.{None, Some}
 use Rattle.components.specs.Chain.{depends_at, Sound}
 use Rattle.model.proofs.Pick.{pick_p}
 use Rattle.components.proofs.Lookup.{parent-earlier}
@@ -102,7 +102,7 @@ module _ (k : ℕ) (ch : List Component) (s : Sound k ch) where
   pub parent-before : (y : ℕ) → y < length ch → parent ch y < length ch → parent ch y < y
   parent-before y b h = by_cases (depends_at ch y) refl
     where
-      by_cases : (o : OptionId) → depends_at ch y ≡ o → parent ch y < y
+      by_cases : (o : Option ComponentId) → depends_at ch y ≡ o → parent ch y < y
       by_cases None e = let q : parent ch y ≡ length ch = ap (place ch) e in absurd (omega arith)
       by_cases (Some d) e = let q = ap (place ch) e in omega (arith, q, parent-earlier k ch s y b d e)
 

@@ -37,15 +37,11 @@ module _ (t : List ℕ) (h : ℕ) where
       push true e = ap (λ (m : List ℕ). p ∷ m) e
       push false e = e
 
-  -- Where none of the positions has the holder, nothing is found,
+  -- Where none of the positions has the holder, nothing is found.
   pub none_found : (ps : List ℕ) → ((p : ℕ) → Memᴰ p ps → get_or t p 0 ≡ h → ⊥) → dependents t h ps ≡ []
   unfolding dependents
   none_found [] f = refl
   none_found (p ∷ ps) f = rw (ne_eqb _ _ (f p (Memᴰ.head refl))) (none_found ps (λ q m. f q (Memᴰ.tail m)))
-
-  -- and what was found behind the others so far is the order itself.
-  pub starts : (o : Order) → length o.at ≡ 255 → o.count ≤ 255 → (p : ℕ) → dependents t h (below p) ≡ [] → Lists (listed o ++ dependents t h (below p)) o
-  starts o full b p e = record { list = sym (rw (e, append-nil)); count = omega (arith, length-take o.count o.at) }
 
   -- What is found grows with the positions,
   found-grows : (p n : ℕ) → p ≤ n → length (dependents t h (below p)) ≤ length (dependents t h (below n))

@@ -18,23 +18,17 @@ pub struct Order {
 }
 
 // Behind the others, in chain order, those of the first `n` positions whose dependency stands at `holder`. A dependency
-// stands strictly earlier than what depends on it, so that nothing up to the holder has to be compared. The order is
-// changed in place: handing it on for each position would copy it.
-fn with_dependents(parents: [u8; 255], n: usize, order: Order, holder: u8) -> Order
-    requires { (n ≤ 255) × (holder < n) × (dependents parents holder (below (holder + 1)) ≡ []) × (order.count ≤ 255) × (length (listed order ++ dependents parents holder (below n)) ≤ 255) }
-    ensures { Lists (listed order ++ dependents parents holder (below n)) result }
+// stands strictly earlier than what depends on it, so that nothing up to the holder has to be compared.
+fn put_dependents(order: &mut Order, parents: &[u8; 255], n: usize, holder: u8)
+    requires { (n ≤ 255) × (holder < n) × (dependents parents.now holder (below (holder + 1)) ≡ []) × (order.old.count ≤ 255) × (length (listed order.old ++ dependents parents.now holder (below n)) ≤ 255) }
+    ensures { Lists (listed order.old ++ dependents parents.now holder (below n)) order.new }
 {
-    let mut r = order;
-    let mut p: usize = holder as usize + 1;
-    while p < n {
+    for p in holder as usize + 1..n {
         if parents[p] == holder {
-            let end = r.count;
-            r.at[end] = p as u8;
-            r.count = end + 1;
+            order.at[order.count] = p as u8;
+            order.count += 1;
         }
-        p += 1;
     }
-    r
 }
 
 // The order in which a cascade from `root` gates: a queue that starts with the root, and each position taken from
@@ -45,14 +39,16 @@ pub fn cascade_order(chain: Chain, root: usize) -> Order
     requires { (Charted chain) × (Sound chain.list.len (entries chain)) × (root < length (entries chain)) }
     ensures { Lists (cascade (entries chain) root) result }
 {
-    let parents = chain.parents;
-    let mut at = [0u8; 255];
-    at[0] = root as u8;
-    let mut order = Order { at: at, count: 1 };
-    let mut k: usize = 0;
+    let mut order = Order {
+        at: [0; 255],
+        count: 1,
+    };
+    order.at[0] = root as u8;
+    // No `for` fits: the queue grows under the loop, so that its end is not known when the loop begins.
+    let mut k = 0;
     while k < order.count {
         let holder = order.at[k];
-        order = with_dependents(parents, chain.list.len, order, holder);
+        put_dependents(&mut order, &chain.parents, chain.list.len, holder);
         k += 1;
     }
     order

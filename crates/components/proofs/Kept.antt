@@ -1,4 +1,5 @@
 -- What does not matter to a verdict: what stands past a list's length, and what is kept of a list that is too long.
+use Rattle.std.specs.Prelude.{Err}
 use Prim.Native.Nat.{ℕ, ◌<◌}
 use mathlib.Core.Path.{◌≡◌, refl, sym, ◌∙◌}
 use mathlib.Core.Bool.{Bool, true, false}
@@ -11,11 +12,9 @@ use lib.Dec.{eqb, ltb}
 use borrow.Author.Tests.{ne_eqb, lt-ltb, ltb-false}
 use Rattle.model.specs.declared.Component.{Component}
 use Rattle.components.specs.declared.ComponentList.{ComponentList}
-use Rattle.components.specs.declared.Question.TheVariants.{NewId, Link}
-use Rattle.components.specs.declared.Verdict.TheVariants.{Refused}
 use Rattle.components.specs.declared.ChainError.TheVariants.{Empty, TooLong}
 use Rattle.model.specs.Vocabulary.{pick}
-use Rattle.components.specs.Chain.{entries_of, pushed, blank, or_else, first, verdict_of}
+use Rattle.components.specs.Chain.{entries_of, pushed, blank, or_else, first, new_ids, links, verdict_of}
 
 -- Two lists of one length that agree up to it have the same entries, and so the same verdict: what stands past the
 -- length does not matter.
@@ -37,13 +36,13 @@ pub kept : (ch : List Component) → verdict_of (length ch) (take 255 ch) ≡ ve
 kept ch = by-test (ltb 255 (length ch)) refl
   where
     by-test : (b : Bool) → ltb 255 (length ch) ≡ b
-        → pick (eqb (length ch) 0) (Refused Empty) (pick b (Refused TooLong) (or_else (first (take 255 ch) NewId) (first (take 255 ch) Link)))
-        ≡ pick (eqb (length ch) 0) (Refused Empty) (pick b (Refused TooLong) (or_else (first ch NewId) (first ch Link)))
+        → pick (eqb (length ch) 0) (Err Empty) (pick b (Err TooLong) (or_else (first (take 255 ch) (new_ids (take 255 ch))) (first (take 255 ch) (links (take 255 ch)))))
+        ≡ pick (eqb (length ch) 0) (Err Empty) (pick b (Err TooLong) (or_else (first ch (new_ids ch)) (first ch (links ch))))
     by-test true t = refl
     by-test false t = rw (take_all 255 ch (ltb-false 255 (length ch) t))
 
 -- A list of more than 255 is too long, whatever is kept of it.
-pub too_long : (n : ℕ) (ch : List Component) → 255 < n → verdict_of n ch ≡ Refused TooLong
+pub too_long : (n : ℕ) (ch : List Component) → 255 < n → verdict_of n ch ≡ Err TooLong
 too_long n ch h = let z : n ≡ 0 → ⊥ = λ q. omega arith in rw (ne_eqb n 0 z, lt-ltb 255 n h)
 
 -- Where there is room, an entry that is pushed stands behind the others.

@@ -2,5 +2,6 @@
 pub mod Walk
 pub mod Lookup
 pub mod Accepted
+pub mod Asked
 pub mod Kept
 pub mod Judged

@@ -1,4 +1,5 @@
 -- Laws of the place of an id: they hold of every list, and the last two of every sound one.
+use Rattle.std.specs.Prelude.{Some}
 use Prim.Native.Nat.{ℕ, zero, suc, ◌≤◌, ◌<◌}
 use mathlib.Core.Path.{◌≡◌, refl, ap}
 use mathlib.Core.Bool.{true, false}
@@ -8,7 +9,6 @@ use lib.ListN.{get_or, length}
 use borrow.Author.Tests.{eqb-true, eqb-false}
 use Rattle.model.specs.declared.ComponentId.{ComponentId}
 use Rattle.model.specs.declared.Component.{Component}
-use Rattle.model.specs.declared.OptionId.TheVariants.{Some}
 use Rattle.model.specs.Vocabulary.{id_of}
 use Rattle.components.specs.Chain.{position, same_id, id_at, depends_at, blank, Sound}
 use Rattle.model.proofs.Pick.{pick_p}

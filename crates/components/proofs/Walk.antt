@@ -1,5 +1,5 @@
 -- Going through a list of components from place to place: what is left to look at gives the whole answer.
-use Prim.Native.Nat.{ℕ, suc, ◌+◌, ◌-◌, ◌<◌, ◌≤◌, min}
+use Prim.Native.Nat.{ℕ, suc, ◌+◌, ◌<◌, ◌≤◌, min}
 use mathlib.Core.Path.{◌≡◌, ◌∙◌, ap}
 use mathlib.Core.Bool.{Bool, true, false}
 use mathlib.Core.List.{List}
@@ -10,10 +10,8 @@ use lib.Seq.{drop-cons, get_or-take}
 use Rattle.model.specs.declared.ComponentId.{ComponentId}
 use Rattle.model.specs.declared.Component.{Component}
 use Rattle.components.specs.declared.ComponentList.{ComponentList}
-use Rattle.components.specs.declared.Question.{Question}
-use Rattle.components.specs.declared.Verdict.TheVariants.{Accepted}
 use Rattle.model.specs.Vocabulary.{pick}
-use Rattle.components.specs.Chain.{entries_of, blank, position, same_id, at, test, or_else, first_from}
+use Rattle.components.specs.Chain.{entries_of, blank, position, same_id, at}
 
 module _ (l : ComponentList) (full : length l.entries ≡ 255) where
   pub kept-length : length (entries_of l) ≡ min l.len 255
@@ -39,14 +37,3 @@ module _ (ch : List Component) (id : ComponentId) (i : ℕ) where
   pub position-end : length ch ≤ i → i + position (drop i ch) id ≡ i
   unfolding position
   position-end h = rw (drop_of_length-le ch {i = i} h) (omega arith)
-
-module _ (ch : List Component) (q : Question) (i n : ℕ) where
-  -- The question at place i, and then at the places after it.
-  pub first_next : i < n → first_from ch q i (n - i) ≡ or_else (test ch q i (at ch i)) (first_from ch q (i + 1) (n - (i + 1)))
-  unfolding first_from
-  first_next h = let e : n - i ≡ suc (n - (i + 1)) = omega arith in rw (e, add-one i)
-
-  -- No place is left.
-  pub nothing_left : n ≤ i → first_from ch q i (n - i) ≡ Accepted
-  unfolding first_from
-  nothing_left h = let e : n - i ≡ 0 = omega arith in rw e

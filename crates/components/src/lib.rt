@@ -2,9 +2,9 @@
 #![tactic(auto)]
 
 ghost use Rattle.std.specs.Prelude.{◌≡◌, ◌≤◌, length};
-ghost use Rattle.components.specs.Chain.{entries_of, no_entries, pushed, position, new_test, link_test, test, first, refuses, verdict_of, answer_of};
+ghost use Rattle.components.specs.Chain.{entries_of, no_entries, pushed, position, new_ids, links, verdict_of, answer_of};
 
-use model::{Component, ComponentAttrs, ComponentId, ComponentKind, FailurePolicy, OptionId};
+use model::{Component, ComponentAttrs, ComponentId, ComponentKind, FailurePolicy};
 
 // The entries handed in. The length may be any number: what stands past it is not looked at, and of a longer list
 // the first 255 entries are kept.
@@ -15,7 +15,7 @@ pub struct ComponentList {
 }
 
 // Why a list of components is no chain.
-#[derive(Clone, Copy)]
+#[derive(Clone, Copy, Debug, PartialEq, Eq)]
 pub enum ChainError {
     Empty,
     TooLong,
@@ -30,88 +30,41 @@ pub enum ChainError {
     },
 }
 
-// The source's Result of Chain::try_from; the chain is the list itself.
-#[derive(Clone, Copy)]
-pub enum Verdict {
-    Accepted,
-    Refused(ChainError),
-}
-
 // A number of the scope's questions and its two places.
-#[derive(Clone, Copy)]
+#[derive(Clone, Copy, Debug, PartialEq, Eq)]
 pub struct Answer {
     pub number: u64,
     pub place: u64,
     pub other: u64,
 }
 
-// The questions that are put to each entry in turn: 4, and 5 with 6.
-#[derive(Clone, Copy)]
-pub enum Question {
-    NewId,
-    Link,
-}
+// Document 01's number and places of a verdict.
+impl From<Result<(), ChainError>> for Answer {
+    ghost from_gives = { λ verdict answer. answer ≡ answer_of verdict };
 
-impl Verdict {
-    pub fn is_refused(self) -> bool
-        ensures { result ≡ refuses self }
-    {
-        match self {
-            Verdict::Accepted => false,
-            Verdict::Refused(_) => true,
-        }
-    }
-
-    pub fn answer(self) -> Answer
-        ensures { result ≡ answer_of self }
-    {
-        match self {
-            Verdict::Accepted => Answer {
-                number: 0,
-                place: 0,
-                other: 0,
-            },
-            Verdict::Refused(e) => e.answer(),
-        }
-    }
-}
-
-impl ChainError {
-    pub fn answer(self) -> Answer
-        ensures { result ≡ answer_of (Verdict.Refused self) }
-    {
-        match self {
-            ChainError::Empty => Answer {
-                number: 2,
-                place: 0,
-                other: 0,
-            },
-            ChainError::TooLong => Answer {
-                number: 3,
-                place: 0,
-                other: 0,
-            },
-            ChainError::DuplicateId(id) => Answer {
-                number: 4,
-                place: id.0 as u64,
-                other: 0,
-            },
-            ChainError::UnknownDependency {
-                component,
-                depends_on,
-            } => Answer {
-                number: 5,
-                place: component.0 as u64,
-                other: depends_on.0 as u64,
-            },
-            ChainError::ForwardDependency {
-                component,
-                depends_on,
-            } => Answer {
-                number: 6,
-                place: component.0 as u64,
-                other: depends_on.0 as u64,
-            },
+    fn from(verdict: Result<(), ChainError>) -> Self {
+        let (number, place, other) = match verdict {
+            Ok(()) => (0, 0, 0),
+            Err(ChainError::Empty) => (2, 0, 0),
+            Err(ChainError::TooLong) => (3, 0, 0),
+            Err(ChainError::DuplicateId(id)) => (4, id.0, 0),
+            Err(
+                ChainError::UnknownDependency {
+                    component,
+                    depends_on,
+                },
+            ) => (5, component.0, depends_on.0),
+            Err(
+                ChainError::ForwardDependency {
+                    component,
+                    depends_on,
+                },
+            ) => (6, component.0, depends_on.0),
+        };
+        Answer {
+            number,
+            place: u64::from(place),
+            other: u64::from(other),
         }
     }
 }
@@ -125,9 +78,8 @@ impl ComponentList {
             id: ComponentId(0),
             attrs: ComponentAttrs::plain(ComponentKind::Active, FailurePolicy::Required),
         };
-        let entries = [blank; 255];
         ComponentList {
-            entries: entries,
+            entries: [blank; 255],
             len: 0,
         }
     }
@@ -136,13 +88,12 @@ impl ComponentList {
     pub fn push(mut self, component: Component) -> Self
         ensures { result ≡ pushed self component }
     {
-        let at = self.len;
-        if at < 255 {
-            self.entries[at] = component;
-            self.len = at + 1;
-            return self;
+        if self.len < 255 {
+            self.entries[self.len] = component;
+            self.len += 1;
+        } else {
+            self.len = 256;
         }
-        self.len = 256;
         self
     }
 
@@ -150,108 +101,78 @@ impl ComponentList {
     pub fn count(self) -> usize
         ensures { (result ≡ length (entries_of self)) × (result ≤ 255) }
     {
-        let n = self.len;
-        if n < 255 { n } else { 255 }
+        self.len.min(255)
     }
 
     // The first place at which `id` stands, or the number of entries kept where it stands nowhere.
     pub fn position(self, id: ComponentId) -> usize
         ensures { result ≡ position (entries_of self) id }
     {
-        let n = self.count();
-        let mut i: usize = 0;
-        while i < n {
-            let c = self.entries[i];
-            if c.id.0 == id.0 {
-                return i;
-            }
-            i += 1;
-        }
-        i
+        self.place(id)
     }
 
-    // Question 4 of the entry `id` at place `at`: is the id new?
-    fn new_id(self, at: usize, id: ComponentId) -> Verdict
-        ensures { result ≡ new_test (entries_of self) at id }
+    // The same of a list that is lent, since by value each call copies the list.
+    fn place(&self, id: ComponentId) -> usize
+        ensures { result ≡ position (entries_of self.now) id }
     {
-        if self.position(id) < at {
-            return Verdict::Refused(ChainError::DuplicateId(id));
-        }
-        Verdict::Accepted
+        let kept = self.count();
+        self.entries[..kept]
+            .iter()
+            .position(|c| c.id == id)
+            .unwrap_or(kept)
     }
 
-    // Questions 5 and 6 of the entry `id` at place `at`: does its dependency stand in the list, and earlier?
-    fn link(self, at: usize, id: ComponentId, depends_on: OptionId) -> Verdict
-        ensures { result ≡ link_test (entries_of self) at id depends_on }
+    // Question 4 of the entry at place `at`: is its id new?
+    fn new_id(&self, at: usize, entry: &Component) -> Result<(), ChainError>
+        ensures { result ≡ new_ids (entries_of self.now) at entry.now }
     {
-        match depends_on {
-            OptionId::None => Verdict::Accepted,
-            OptionId::Some(dep) => {
-                let j = self.position(dep);
-                if self.count() <= j {
-                    return Verdict::Refused(ChainError::UnknownDependency {
-                        component: id,
-                        depends_on: dep,
-                    });
-                }
-                if at <= j {
-                    return Verdict::Refused(ChainError::ForwardDependency {
-                        component: id,
-                        depends_on: dep,
-                    });
-                }
-                Verdict::Accepted
-            }
+        if self.place(entry.id) < at {
+            return Err(ChainError::DuplicateId(entry.id));
         }
+        Ok(())
     }
 
-    // What the question finds of the entry `c` at place `at`.
-    fn ask(self, question: Question, at: usize, c: Component) -> Verdict
-        ensures { result ≡ test (entries_of self) question at c }
+    // Questions 5 and 6 of the entry at place `at`: does its dependency stand in the list, and earlier?
+    fn link(&self, at: usize, entry: &Component) -> Result<(), ChainError>
+        ensures { result ≡ links (entries_of self.now) at entry.now }
     {
-        let id = c.id;
-        match question {
-            Question::NewId => self.new_id(at, id),
-            Question::Link => {
-                let attrs = c.attrs;
-                let depends_on = attrs.depends_on;
-                self.link(at, id, depends_on)
-            }
+        let Some(depends_on) = entry.attrs.depends_on else {
+            return Ok(());
+        };
+        let place = self.place(depends_on);
+        if self.count() <= place {
+            return Err(ChainError::UnknownDependency {
+                component: entry.id,
+                depends_on,
+            });
         }
-    }
-
-    // The first refusal as the question is put to one entry after the other.
-    fn first_refusal(self, question: Question) -> Verdict
-        ensures { result ≡ first (entries_of self) question }
-    {
-        let n = self.count();
-        let mut i: usize = 0;
-        while i < n {
-            let c = self.entries[i];
-            let v = self.ask(question, i, c);
-            if v.is_refused() {
-                return v;
-            }
-            i += 1;
+        if at <= place {
+            return Err(ChainError::ForwardDependency {
+                component: entry.id,
+                depends_on,
+            });
         }
-        Verdict::Accepted
+        Ok(())
     }
 
     // Questions 2 to 6.
-    pub fn verdict(self) -> Verdict
+    pub fn verdict(self) -> Result<(), ChainError>
         ensures { result ≡ verdict_of self.len (entries_of self) }
     {
-        let n = self.len;
-        if n == 0 {
-            return Verdict::Refused(ChainError::Empty);
+        if self.len == 0 {
+            return Err(ChainError::Empty);
         }
-        if 255 < n {
-            return Verdict::Refused(ChainError::TooLong);
+        if 255 < self.len {
+            return Err(ChainError::TooLong);
         }
-        let v = self.first_refusal(Question::NewId);
-        if v.is_refused() {
-            return v;
-        }
-        self.first_refusal(Question::Link)
+        let entries = &self.entries[..self.len];
+        entries
+            .iter()
+            .enumerate()
+            .try_for_each(|(at, entry)| self.new_id(at, entry))?;
+        entries
+            .iter()
+            .enumerate()
+            .try_for_each(|(at, entry)| self.link(at, entry))
     }
 }

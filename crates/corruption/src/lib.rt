@@ -17,7 +17,7 @@ use machine::Work;
 use model::{ComponentId, Effect, FailurePolicy};
 
 // Where a corruption is met: in a walk, while an update is staged, or elsewhere.
-#[derive(Clone, Copy)]
+#[derive(Clone, Copy, Debug, PartialEq, Eq)]
 pub enum Situation {
     Walking,
     Updated,
@@ -29,19 +29,14 @@ fn cascade_hold(chain: Chain, w: Work, p: usize) -> Work
     requires { (Sane chain w) × (p < size chain) }
     ensures { Does (size chain) w (gating_all (entries chain) (cascade (entries chain) p)) result }
 {
-    let order = cascade::cascade_order(chain, p);
-    holds::gate_all(chain, w, order)
+    holds::gate_all(chain, w, cascade::cascade_order(chain, p))
 }
 
 // Does this policy gate a component that fails? Required does not: a corruption recovers it, and exhaustion reports it.
 pub fn gates_failed(policy: FailurePolicy) -> bool
     ensures { result ≡ gates_failed policy }
 {
-    match policy {
-        FailurePolicy::Required => false,
-        FailurePolicy::Isolable => true,
-        FailurePolicy::Cascading => true,
-    }
+    matches!(policy, FailurePolicy::Isolable | FailurePolicy::Cascading)
 }
 
 // The gate that the policy of the component at p means, and none for Required. Corruption and exhausted recovery both ask
@@ -50,8 +45,7 @@ pub fn gate_by_policy(chain: Chain, w: Work, p: usize) -> Work
     requires { (Sane chain w) × (p < size chain) }
     ensures { Does (size chain) w (gate_by_policy (entries chain) p stay stay) result }
 {
-    let policy = chain.policy_at(p);
-    match policy {
+    match chain.policy_at(p) {
         FailurePolicy::Required => w,
         FailurePolicy::Isolable => holds::gate_one(chain, w, p),
         FailurePolicy::Cascading => cascade_hold(chain, w, p),
@@ -63,12 +57,9 @@ fn move_on(chain: Chain, w: Work) -> Work
     requires { Sane chain w }
     ensures { Does (size chain) w (move_on (entries chain)) result }
 {
-    let n = chain.count();
-    let rot = w.rot;
-    let cursor = rot.cursor;
-    let state = w.state;
-    if machine::is_gated(rot, n, cursor) {
-        return entry::walk_on(chain, w, cursor + 1, state);
+    let cursor = w.rot.cursor;
+    if machine::is_gated(w.rot, chain.count(), cursor) {
+        return entry::walk_on(chain, w, cursor + 1, w.state);
     }
     w
 }
@@ -80,8 +71,7 @@ fn follow(chain: Chain, w: Work, situation: Situation) -> Work
 {
     match situation {
         Situation::Walking => move_on(chain, w),
-        Situation::Updated => w,
-        Situation::Elsewhere => w,
+        Situation::Updated | Situation::Elsewhere => w,
     }
 }
 
@@ -90,12 +80,11 @@ fn precede(w: Work, situation: Situation) -> Work
     ensures { DoesAll w (λ c. out c (before situation)) result }
 {
     match situation {
-        Situation::Walking => w,
         Situation::Updated => {
             let v = machine::say(w, Effect::DiscardStaged);
             machine::say(v, Effect::ReportUpdateAborted)
         }
-        Situation::Elsewhere => w,
+        Situation::Walking | Situation::Elsewhere => w,
     }
 }
 
@@ -125,15 +114,12 @@ pub fn handle_corruption(
     requires { Placed chain w id p }
     ensures { Does (size chain) w (corrupt (entries chain) (follows situation (entries chain)) (before situation) id) result }
 {
-    let n = chain.count();
-    let rot = w.rot;
-    let mut v = w;
-    if !machine::is_gated(rot, n, p) {
-        let policy = chain.policy_at(p);
-        if !gates_failed(policy) {
-            return start_recovery(chain, w, id, p, situation);
-        }
-        v = gate_by_policy(chain, w, p);
+    if machine::is_gated(w.rot, chain.count(), p) {
+        return follow(chain, w, situation);
     }
-    follow(chain, v, situation)
+    if gates_failed(chain.policy_at(p)) {
+        let v = gate_by_policy(chain, w, p);
+        return follow(chain, v, situation);
+    }
+    start_recovery(chain, w, id, p, situation)
 }

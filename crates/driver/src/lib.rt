@@ -1,7 +1,7 @@
 // A run of a sheet, in small steps: what the next line or the machine does, and then the line that it writes.
 #![tactic(auto)]
 
-ghost use Rattle.std.specs.Prelude.{◌≡◌, List, ◌∷◌, ℕ, ◌+◌, ◌<◌, leb, ltb, length, drop};
+ghost use Rattle.std.specs.Prelude.{◌≡◌, List, ◌∷◌, ℕ, ◌+◌, ◌<◌, leb, ltb, length, drop, Ok, Err};
 ghost use Rattle.model.specs.Vocabulary.{pick};
 ghost use Rattle.components.specs.Chain.{id_at};
 ghost use Rattle.chain.specs.Tables.{entries};
@@ -14,15 +14,16 @@ ghost use Rattle.settling.specs.View.{Short, Whole};
 ghost use Rattle.settling.specs.Parts.{Moves};
 ghost use Rattle.driver.specs.Run.{Setting, Point, silent, answering, handed, reading, step_by, transcript};
 ghost use Rattle.driver.specs.Seen.{run_on, Ran};
-ghost use Rattle.driver.specs.Plans.{at_start, end_of, stays, stops, passes, answers, answers_by, begins, reads_by, tells_next, takes, finishes, taking_at, taking_now, turn_at, act_by, telling_now, spoken, wrote, Stands, Due, Planned};
+ghost use Rattle.driver.specs.declared.RunError.TheVariants.{LimitReached};
+ghost use Rattle.driver.specs.Plans.{at_start, end_of, stays, stops, passes, answers, answers_by, begins, reads_by, tells_next, takes, finishes, taking_now, turn_at, act_by, telling_now, spoken, wrote, Stands, Due, Planned};
 
 use chain::Chain;
 use lines::Row;
 use machine::Rot;
 use model::{Effect, Event, State};
-use pending::{OptionEvent, Pending};
-use settling::{Dispatch, Machine, Reply, Waiting};
-use text::{Line, Room};
+use pending::Pending;
+use settling::{Dispatch, Machine, Reply};
+use text::Line;
 
 // What a turn of the machine would do.
 #[derive(Clone, Copy)]
@@ -34,7 +35,7 @@ pub enum Stage {
 }
 
 // Where a run stands, beside its machine: the place of the next line in the sheet, and its number; the number of the E line
-// at work, or 0; events settled, T lines told, bytes written; and how the run ended.
+// at work, or 0; events settled, T lines told, bytes written; and how the run ended, once it has.
 #[derive(Clone, Copy)]
 pub struct Cursor {
     pub at: usize,
@@ -42,14 +43,21 @@ pub struct Cursor {
     pub work: usize,
     pub settled: u64,
     pub told: usize,
-    pub going: bool,
-    pub number: u64,
-    pub place: u64,
     pub written: usize,
+    pub outcome: Option<Result<(), RunError>>,
+}
+
+// Why a run stops before the end of its sheet: no effect waits for the R line with this number, the next line of the
+// transcript does not fit, as many events were settled as the limit allows.
+#[derive(Clone, Copy, Debug, PartialEq, Eq)]
+pub enum RunError {
+    NothingWaits(usize),
+    NoRoom,
+    LimitReached,
 }
 
 // What a step does to the machine: nothing, the dispatch has ended, an event is queued, the waiting effect is answered, a
-// turn.
+// turn. It is decided apart from where it is done: what decides takes no machine, whose arrays are changed where they stand.
 #[derive(Clone, Copy)]
 pub enum Act {
     Stay,
@@ -76,11 +84,10 @@ pub struct Plan {
     pub say: Say,
 }
 
-// How a run ended: its number and place, events settled, bytes written.
+// How a run ended: its outcome, events settled, bytes written.
 #[derive(Clone, Copy)]
 pub struct End {
-    pub number: u64,
-    pub place: u64,
+    pub outcome: Result<(), RunError>,
     pub settled: u64,
     pub written: usize,
 }
@@ -89,19 +96,14 @@ pub struct End {
 fn due(d: Dispatch, len: usize) -> Stage
     ensures { Due len d result }
 {
-    let waiting = d.waiting;
-    match waiting {
-        Waiting::Handed(_) => Stage::Waits,
-        Waiting::Nothing => {
-            if d.next < len {
-                return Stage::HandsOut;
-            }
-            let pending = d.pending;
-            if 0 < pending.count() {
-                return Stage::Takes;
-            }
-            Stage::Rests
-        }
+    if d.waiting.is_some() {
+        Stage::Waits
+    } else if d.next < len {
+        Stage::HandsOut
+    } else if 0 < d.pending.count() {
+        Stage::Takes
+    } else {
+        Stage::Rests
     }
 }
 
@@ -117,26 +119,21 @@ fn stay(c: Cursor) -> Plan
 }
 
 // The run ends here.
-fn stop(c: Cursor, number: u64, place: u64) -> Plan
-    ensures { result ≡ stops number place c }
+fn stop(mut c: Cursor, outcome: Result<(), RunError>) -> Plan
+    ensures { result ≡ stops outcome c }
 {
-    let mut v = c;
-    v.going = false;
-    v.number = number;
-    v.place = place;
-    stay(v)
+    c.outcome = Some(outcome);
+    stay(c)
 }
 
 // One line further.
-fn pass(c: Cursor, after: usize) -> Cursor
+fn pass(mut c: Cursor, after: usize) -> Cursor
     requires { c.line < 18446744073709551615 }
     ensures { result ≡ passes after c }
 {
-    let line = c.line;
-    let mut v = c;
-    v.at = after;
-    v.line = line + 1;
-    v
+    c.at = after;
+    c.line += 1;
+    c
 }
 
 // The waiting effect is answered.
@@ -151,16 +148,14 @@ fn answer(c: Cursor, reply: Reply) -> Plan
 }
 
 // An effect waits for this line; if it isn't an R line, the reply is ok.
-fn answer_row(c: Cursor, row: Row, after: usize) -> Plan
+fn answer_row(c: Cursor, row: Option<Row>, after: usize) -> Plan
     requires { c.line < 18446744073709551615 }
     ensures { result ≡ answers_by c after row }
 {
-    match row {
-        Row::Retry(_) => answer(c, Reply::Done),
-        Row::Card(_) => answer(c, Reply::Done),
-        Row::Begin(_) => answer(c, Reply::Done),
-        Row::Answer(reply) => answer(pass(c, after), reply),
-        Row::Bad => answer(c, Reply::Done),
+    if let Some(Row::Answer(reply)) = row {
+        answer(pass(c, after), reply)
+    } else {
+        answer(c, Reply::Done)
     }
 }
 
@@ -169,86 +164,76 @@ fn answer_by_line(sheet: &[u8], c: Cursor) -> Plan
     requires { Stands sheet.now c }
     ensures { (limit n : ℕ) (g : Stage) → Planned sheet.now limit n c g (λ (st : Setting) (p : Point). silent (answering p p.rows)) result }
 {
-    let at = c.at;
-    if sheet.len() <= at {
+    if sheet.len() <= c.at {
         return answer(c, Reply::Done);
     }
-    let next = reader::next_line(sheet, at);
-    let row = next.row;
-    answer_row(c, row, next.after)
+    let next = reader::next_line(sheet, c.at);
+    answer_row(c, next.row, next.after)
 }
 
 // The front event is taken, unless the limit is reached.
-fn take(c: Cursor, limit: u64) -> Plan
-    ensures { result ≡ pick (leb limit c.settled) (stops 9 0 c) (takes c) }
+fn take(mut c: Cursor, limit: u64) -> Plan
+    ensures { result ≡ pick (leb limit c.settled) (stops (Err LimitReached) c) (takes c) }
 {
-    let settled = c.settled;
-    if limit <= settled {
-        return stop(c, 9, 0);
+    if limit <= c.settled {
+        return stop(c, Err(RunError::LimitReached));
     }
-    let mut v = c;
-    v.settled = settled + 1;
+    c.settled += 1;
     Plan {
-        cursor: v,
+        cursor: c,
         act: Act::Turn,
         say: Say::Silence,
     }
 }
 
 // The E line is done: an S line.
-fn finish(c: Cursor) -> Plan
+fn finish(mut c: Cursor) -> Plan
     ensures { result ≡ finishes c }
 {
-    let mut v = c;
-    v.work = 0;
+    c.work = 0;
     Plan {
-        cursor: v,
+        cursor: c,
         act: Act::Rest,
         say: Say::StateLine,
     }
 }
 
 // At the end of the sheet, a T line for each of n components in chain order.
-fn tell(c: Cursor, n: usize) -> Plan
-    ensures { result ≡ pick (ltb c.told n) (tells_next c) (stops 0 0 c) }
+fn tell(mut c: Cursor, n: usize) -> Plan
+    ensures { result ≡ pick (ltb c.told n) (tells_next c) (stops (Ok tt) c) }
 {
-    let told = c.told;
-    if n <= told {
-        return stop(c, 0, 0);
+    if n <= c.told {
+        return stop(c, Ok(()));
     }
-    let mut v = c;
-    v.told = told + 1;
+    c.told += 1;
     Plan {
-        cursor: v,
+        cursor: c,
         act: Act::Stay,
         say: Say::StatusLine,
     }
 }
 
 // The event of an E line is queued; `line` is the number of that line.
-fn begin(c: Cursor, event: Event, line: usize) -> Plan
+fn begin(mut c: Cursor, event: Event, line: usize) -> Plan
     ensures { result ≡ begins event line c }
 {
-    let mut v = c;
-    v.work = line;
+    c.work = line;
     Plan {
-        cursor: v,
+        cursor: c,
         act: Act::Queue(event),
         say: Say::Silence,
     }
 }
 
 // This line, with no event at work.
-fn read_row(c: Cursor, row: Row, after: usize) -> Plan
+fn read_row(c: Cursor, row: Option<Row>, after: usize) -> Plan
     requires { c.line < 18446744073709551615 }
     ensures { result ≡ reads_by c after row }
 {
     match row {
-        Row::Retry(_) => stay(pass(c, after)),
-        Row::Card(_) => stay(pass(c, after)),
-        Row::Begin(event) => begin(pass(c, after), event, c.line),
-        Row::Answer(_) => stop(c, 7, c.line as u64),
-        Row::Bad => stay(pass(c, after)),
+        Some(Row::Begin(event)) => begin(pass(c, after), event, c.line),
+        Some(Row::Answer(_)) => stop(c, Err(RunError::NothingWaits(c.line))),
+        _ => stay(pass(c, after)),
     }
 }
 
@@ -257,13 +242,11 @@ fn read(sheet: &[u8], n: usize, c: Cursor) -> Plan
     requires { Stands sheet.now c }
     ensures { (limit : ℕ) → Planned sheet.now limit n c Stage.Rests (λ (st : Setting) (p : Point). reading st p p.rows) result }
 {
-    let at = c.at;
-    if sheet.len() <= at {
+    if sheet.len() <= c.at {
         return tell(c, n);
     }
-    let next = reader::next_line(sheet, at);
-    let row = next.row;
-    read_row(c, row, next.after)
+    let next = reader::next_line(sheet, c.at);
+    read_row(c, next.row, next.after)
 }
 
 // One step of a run, by what is due.
@@ -279,24 +262,8 @@ fn next_step(sheet: &[u8], limit: u64, n: usize, stage: Stage, c: Cursor) -> Pla
             say: Say::EffectLine,
         },
         Stage::Takes => take(c, limit),
-        Stage::Rests => {
-            if c.work == 0 {
-                return read(sheet, n, c);
-            }
-            finish(c)
-        }
-    }
-}
-
-// Does a turn at this stage take an event?
-fn is_taking(stage: Stage) -> bool
-    ensures { result ≡ taking_at stage }
-{
-    match stage {
-        Stage::Waits => false,
-        Stage::HandsOut => false,
-        Stage::Takes => true,
-        Stage::Rests => false,
+        Stage::Rests if c.work == 0 => read(sheet, n, c),
+        Stage::Rests => finish(c),
     }
 }
 
@@ -304,13 +271,7 @@ fn is_taking(stage: Stage) -> bool
 fn takes(act: Act, stage: Stage) -> bool
     ensures { result ≡ taking_now act stage }
 {
-    match act {
-        Act::Stay => false,
-        Act::Rest => false,
-        Act::Queue(_) => false,
-        Act::Give(_) => false,
-        Act::Turn => is_taking(stage),
-    }
+    matches!((act, stage), (Act::Turn, Stage::Takes))
 }
 
 // The dispatch after a turn that takes no event; `effect` is the next one of a batch of `len`.
@@ -319,9 +280,8 @@ fn turned(d: Dispatch, len: usize, effect: Effect, stage: Stage) -> Dispatch
     ensures { Moves len (λ es. turn_at effect (drop (d.next + 1) es) stage) d result }
 {
     match stage {
-        Stage::Waits => d,
+        Stage::Waits | Stage::Takes => d,
         Stage::HandsOut => settling::hand_out(d, len, effect),
-        Stage::Takes => d,
         Stage::Rests => settling::rested(d),
     }
 }
@@ -344,32 +304,24 @@ fn acted(d: Dispatch, len: usize, effect: Effect, act: Act, stage: Stage) -> Dis
 fn front_event(pending: Pending) -> Event
     ensures { (e : Event) (q : List Event) → events pending ≡ e ∷ q → result ≡ e }
 {
-    let front = pending.front();
-    match front {
-        OptionEvent::NoEvent => Event::EffectFailed,
-        OptionEvent::OneEvent(event) => event,
-    }
+    pending.front().unwrap_or(Event::EffectFailed)
 }
 
 // An effect that is handed out has an X line.
-fn handed_line(waiting: Waiting) -> Line
+fn handed_line(waiting: Option<Effect>) -> Line
     ensures { text_of result ≡ transcript (handed waiting) }
 {
-    match waiting {
-        Waiting::Nothing => text::empty(),
-        Waiting::Handed(effect) => effect_lines::effect_line(effect),
-    }
+    waiting.map_or_else(text::empty, effect_lines::effect_line)
 }
 
 // The line of a step that writes no T line: of the state before it, or of the effect that waits after it.
-fn said_line(say: Say, state: State, waiting: Waiting) -> Line
+fn said_line(say: Say, state: State, waiting: Option<Effect>) -> Line
     ensures { text_of result ≡ transcript (spoken say state waiting) }
 {
     match say {
-        Say::Silence => text::empty(),
+        Say::Silence | Say::StatusLine => text::empty(),
         Say::EffectLine => handed_line(waiting),
         Say::StateLine => printed::state_line(state),
-        Say::StatusLine => text::empty(),
     }
 }
 
@@ -377,12 +329,7 @@ fn said_line(say: Say, state: State, waiting: Waiting) -> Line
 fn tells(say: Say) -> bool
     ensures { result ≡ telling_now say }
 {
-    match say {
-        Say::Silence => false,
-        Say::EffectLine => false,
-        Say::StateLine => false,
-        Say::StatusLine => true,
-    }
+    matches!(say, Say::StatusLine)
 }
 
 // The T line of the component at position p, of n.
@@ -403,93 +350,75 @@ fn start() -> Cursor
         work: 0,
         settled: 0,
         told: 0,
-        going: true,
-        number: 0,
-        place: 0,
         written: 0,
+        outcome: None,
     }
 }
 
 // Where the line was written, or no room for it.
-fn record_line(c: Cursor, room: Room) -> Cursor
+fn record_line(mut c: Cursor, room: Option<usize>) -> Cursor
     ensures { result ≡ wrote c room }
 {
-    let mut v = c;
-    match room {
-        Room::At(w) => {
-            v.written = w;
-            v
-        }
-        Room::Full => {
-            v.going = false;
-            v.number = 8;
-            v.place = 0;
-            v
-        }
+    if let Some(end) = room {
+        c.written = end;
+    } else {
+        c.outcome = Some(Err(RunError::NoRoom));
     }
+    c
 }
 
 // How the run of a cursor that goes no further ended.
-fn ended(c: Cursor) -> End
-    ensures { result ≡ end_of c }
+fn ended(outcome: Result<(), RunError>, c: Cursor) -> End
+    ensures { result ≡ end_of outcome c }
 {
     End {
-        number: c.number,
-        place: c.place,
+        outcome,
         settled: c.settled,
         written: c.written,
     }
 }
 
-// The run of a sheet on a machine that `new` made for it, into a lent buffer. The machine is taken apart, since its parts are
-// stored to one by one, and an effect is read where it stands only from an array that is a variable's own. The next effect is
-// read at every step, and used only where one is left: then its place is below 512, the number of slots.
-pub fn drive(sheet: &[u8], out: &mut [u8], limit: u64, machine: Machine) -> End
+// The run of a sheet on a machine that `new` made for it, into a lent buffer. The machine is changed in place, part by part. The
+// next effect is read at every step, and used only where one is left: then its place is below 512, the number of effects that
+// there is room for.
+pub fn drive(sheet: &[u8], out: &mut [u8], limit: u64, mut machine: Machine) -> End
     requires { Whole machine }
     ensures { Ran out.old (run_on sheet.now (length out.old) limit machine) result out.new }
 {
-    let chain = machine.chain;
-    let n = chain.count();
-    let positions = chain.positions;
-    let work = machine.work;
-    let mut state = work.state;
-    let mut rot = work.rot;
-    let mut batch = work.sink;
-    let mut d = machine.dispatch;
+    let n = machine.chain.count();
     let mut c = start();
-    while c.going {
-        let stage = due(d, batch.len);
-        let step = next_step(sheet, limit, n, stage, c);
-        let act = step.act;
-        let say = step.say;
-        let i = d.next % 512;
-        let slot = batch.effects[i];
-        let effect = slot.effect;
-        let before = state;
-        let mut after = acted(d, batch.len, effect, act, stage);
+    loop {
+        if let Some(outcome) = c.outcome {
+            return ended(outcome, c);
+        }
+        let stage = due(machine.dispatch, machine.work.sink.len);
+        let Plan { cursor, act, say } = next_step(sheet, limit, n, stage, c);
+        let effect = machine.work.sink.effects[machine.dispatch.next % 512];
+        let before = machine.work.state;
         if takes(act, stage) {
-            let pending = d.pending;
-            let event = front_event(pending);
-            after = settling::taken(d);
-            if rot::idles(positions, n, state, event) {
-                batch.len = 0;
+            let event = front_event(machine.dispatch.pending);
+            machine.dispatch = settling::taken(machine.dispatch);
+            if rot::idles(machine.chain.positions, n, before, event) {
+                machine.work.sink.len = 0;
             } else {
-                let stepped = rot::step(chain, machine.max_retry, state, rot, batch, event);
-                state = stepped.state;
-                rot = stepped.rot;
-                batch = stepped.sink;
+                machine.work = rot::step(
+                    machine.chain,
+                    machine.max_retry,
+                    before,
+                    machine.work.rot,
+                    machine.work.sink,
+                    event,
+                );
             }
+        } else {
+            machine.dispatch = acted(machine.dispatch, machine.work.sink.len, effect, act, stage);
         }
-        d = after;
-        let waiting = d.waiting;
-        let mut line = said_line(say, before, waiting);
-        if tells(say) {
-            line = told_line(chain, rot, n, c.told);
-        }
-        let next = step.cursor;
-        let at = next.written;
-        let room = text::append(out, at, line);
-        c = record_line(next, room);
+        let line = if tells(say) {
+            told_line(machine.chain, machine.work.rot, n, c.told)
+        } else {
+            said_line(say, before, machine.dispatch.waiting)
+        };
+        let room = text::append(out, cursor.written, line);
+        c = record_line(cursor, room);
     }
-    ended(c)
 }

@@ -21,7 +21,7 @@ fn recover_line(id: ComponentId, attempt: u8) -> Line
     ensures { text_of result ≡ line (bytes "X" ⇥ bytes "RecoverComponent" ⇥ id_text id ⇥ decimal attempt) }
 {
     let l = text::push_number(text::start(b'X', b"RecoverComponent"), id.0 as u64);
-    text::push(text::push_number(l, attempt as u64), 10)
+    text::push(text::push_number(l, attempt as u64), b'\n')
 }
 
 fn push_cause(l: Line, kind: BootFailureKind) -> Line
@@ -38,13 +38,12 @@ fn boot_line(id: ComponentId, checkpoint: u16, kind: BootFailureKind) -> Line
     ensures { text_of result ≡ line (bytes "X" ⇥ bytes "ReportBootFailed" ⇥ id_text id ⇥ decimal checkpoint ⇥ failure_text kind) }
 {
     let l = text::push_number(text::start(b'X', b"ReportBootFailed"), id.0 as u64);
-    text::push(
-        push_cause(text::push_number(l, checkpoint as u64), kind),
-        10,
-    )
+    let l = push_cause(text::push_number(l, checkpoint as u64), kind);
+    text::push(l, b'\n')
 }
 
 // The line of an effect. Emit is never handed out; its line has no text.
+#[tactic(auto, using(text::proofs::Laws::whole), unfolding(printed::specs::Transcript::effect_line, printed::specs::Transcript::effect_text))]
 pub fn effect_line(effect: Effect) -> Line
     ensures { text_of result ≡ effect_line effect }
 {

@@ -1,4 +1,3 @@
 -- Modules of proofs that belong to no one function.
 pub mod Compose
-pub mod Now
 pub mod Outcomes

@@ -12,54 +12,49 @@ use machine::Work;
 use model::{ComponentId, Effect, State};
 use store::Status;
 
-pub fn enter_locked(w: Work) -> Work
+pub fn enter_locked(mut w: Work) -> Work
     ensures { DoesAll w enter_locked result }
 {
-    let v = machine::in_state(w, State::Locked);
-    machine::say(v, Effect::LatchLockdown)
+    w.state = State::Locked;
+    w.sink.emit(Effect::LatchLockdown);
+    w
 }
 
 pub fn enter_ready(chain: Chain, w: Work) -> Work
     requires { Sane chain w }
     ensures { Does (size chain) w enter_ready result }
 {
-    let n = chain.count();
-    let v = advance::clear_all_retries(w, n);
-    machine::in_state(v, State::Ready)
+    let mut v = advance::clear_all_retries(w, chain.count());
+    v.state = State::Ready;
+    v
 }
 
-pub fn enter_updating(w: Work) -> Work
+pub fn enter_updating(mut w: Work) -> Work
     ensures { DoesAll w enter_updating result }
 {
-    let v = machine::with_window(w, false);
-    let u = machine::in_state(v, State::Updating);
-    let t = machine::say(u, Effect::AuthenticateUpdate);
-    machine::say(t, Effect::StageUpdate)
+    w.rot.pending_commit = false;
+    w.state = State::Updating;
+    w.sink.emit(Effect::AuthenticateUpdate);
+    w.sink.emit(Effect::StageUpdate);
+    w
 }
 
-// The component is held while it is restored, and its retry count tells the driver which attempt this is.
-pub fn enter_recovering(chain: Chain, w: Work, id: ComponentId, p: usize) -> Work
+// The component is held while it is restored, and its retry count tells the driver which attempt this is. The chain is
+// there for the contract alone.
+pub fn enter_recovering(chain: Chain, mut w: Work, id: ComponentId, p: usize) -> Work
     requires { Placed chain w id p }
     ensures { Does (size chain) w (enter_recovering (entries chain) id) result }
 {
-    let n = chain.count();
-    let rot = w.rot;
-    let s = machine::status_at(rot, n, p);
-    let off = Status {
-        retry: s.retry,
+    let attempt = w.rot.statuses[p].retry;
+    w.rot.statuses[p] = Status {
         awaiting_boot: false,
         released: false,
+        ..w.rot.statuses[p]
     };
-    let v = machine::put_status(w, n, p, off);
-    let u = machine::with_window(v, false);
-    let t = machine::in_state(u, State::Recovering(id));
-    machine::say(
-        t,
-        Effect::RecoverComponent {
-            id: id,
-            attempt: s.retry,
-        },
-    )
+    w.rot.pending_commit = false;
+    w.state = State::Recovering(id);
+    w.sink.emit(Effect::RecoverComponent { id, attempt });
+    w
 }
 
 // A walk starts with every released component held, so that nothing is verified while it runs.
@@ -68,8 +63,9 @@ pub fn enter_walk(chain: Chain, w: Work) -> Work
     ensures { Does (size chain) w (enter_walk (entries chain)) result }
 {
     let v = advance::quiesce_all(chain, w);
-    let u = advance::advance_to_next_ungated(chain, v, 0);
-    machine::in_state(u, State::PreSupervision)
+    let mut u = advance::advance_to_next_ungated(chain, v, 0);
+    u.state = State::PreSupervision;
+    u
 }
 
 // ---- the walk
@@ -79,11 +75,10 @@ pub fn walk_on(chain: Chain, w: Work, p: usize, state: State) -> Work
     requires { (Sane chain w) × (p ≤ size chain) }
     ensures { Does (size chain) w (onward (entries chain) p state) result }
 {
-    let n = chain.count();
-    let v = advance::advance_to_next_ungated(chain, w, p);
-    let cursor = v.rot.cursor;
-    if cursor < n {
-        return machine::in_state(v, state);
+    let mut v = advance::advance_to_next_ungated(chain, w, p);
+    if v.rot.cursor < chain.count() {
+        v.state = state;
+        return v;
     }
     enter_ready(chain, v)
 }

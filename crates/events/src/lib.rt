@@ -1,176 +1,114 @@
 // Events read from their text: a name, then its fields, each after one tab.
 #![tactic(auto)]
 
-ghost use Rattle.std.specs.Prelude.{◌≡◌};
-ghost use Rattle.events.specs.Read.{failure_event, plain_event, fault_event, id_event, power_good, boot_failed, boot_fields, id_fields, field_event, event_of};
+ghost use Rattle.std.specs.Prelude.{◌≡◌, MatchOption};
+ghost use Rattle.std.specs.Str.{IsUtf8};
+ghost use Rattle.events.specs.Read.{plain_event, id_event, power_good, boot_failed, boot_fields, field_event, event_of};
 
-use fields::OptionNumber;
 use model::{BootFailureKind, ComponentId, Event, PowerOnResult};
-use pending::OptionEvent;
 
-// The events with no field that tell of a failure, by their whole text.
-fn failure_event(f: &[u8]) -> OptionEvent
-    ensures { result ≡ failure_event f.now }
+// The bytes as text, so that names are matched as text. A match on byte strings was tried: it is proved byte by byte, which for
+// the seven names of plain_event took minutes and left 14 goals open.
+fn as_text(f: &[u8]) -> Option<&str>
+    ensures { MatchOption result (¬ (IsUtf8 f.now)) (λ s. s.now ≡ f.now) }
 {
-    if fields::same(f, b"RecoveryFailed") {
-        return OptionEvent::OneEvent(Event::RecoveryFailed);
-    }
-    if fields::same(f, b"CommitTimeout") {
-        return OptionEvent::OneEvent(Event::CommitTimeout);
-    }
-    if fields::same(f, b"EffectFailed") {
-        return OptionEvent::OneEvent(Event::EffectFailed);
-    }
-    OptionEvent::NoEvent
+    str::from_utf8(f).ok()
 }
 
 // The events with no field, by their whole text.
-fn plain_event(f: &[u8]) -> OptionEvent
+#[tactic(auto, using(fields::proofs::Tables::tables), unfolding(crate::specs::Read::plain_event, crate::specs::Read::failure_event))]
+fn plain_event(f: &[u8]) -> Option<Event>
     ensures { result ≡ plain_event f.now }
 {
-    if fields::same(f, b"AttestationChallenge") {
-        return OptionEvent::OneEvent(Event::AttestationChallenge);
+    match as_text(f)? {
+        "AttestationChallenge" => Some(Event::AttestationChallenge),
+        "UpdateRequest" => Some(Event::UpdateRequest),
+        "UpdateVerified" => Some(Event::UpdateVerified),
+        "UpdateRejected" => Some(Event::UpdateRejected),
+        "RecoveryFailed" => Some(Event::RecoveryFailed),
+        "CommitTimeout" => Some(Event::CommitTimeout),
+        "EffectFailed" => Some(Event::EffectFailed),
+        _ => None,
     }
-    if fields::same(f, b"UpdateRequest") {
-        return OptionEvent::OneEvent(Event::UpdateRequest);
-    }
-    if fields::same(f, b"UpdateVerified") {
-        return OptionEvent::OneEvent(Event::UpdateVerified);
-    }
-    if fields::same(f, b"UpdateRejected") {
-        return OptionEvent::OneEvent(Event::UpdateRejected);
-    }
-    failure_event(f)
-}
-
-// The events whose one field is a component: those of a fault and its recovery.
-fn fault_event(f: &[u8], id: ComponentId) -> OptionEvent
-    ensures { result ≡ fault_event f.now id }
-{
-    if fields::same(f, b"CorruptionDetected") {
-        return OptionEvent::OneEvent(Event::CorruptionDetected(id));
-    }
-    if fields::same(f, b"Restored") {
-        return OptionEvent::OneEvent(Event::Restored(id));
-    }
-    if fields::same(f, b"RecoveryUnavailable") {
-        return OptionEvent::OneEvent(Event::RecoveryUnavailable(id));
-    }
-    if fields::same(f, b"Timeout") {
-        return OptionEvent::OneEvent(Event::Timeout(id));
-    }
-    OptionEvent::NoEvent
 }
 
 // The events whose one field is a component.
-fn id_event(f: &[u8], id: ComponentId) -> OptionEvent
-    ensures { result ≡ id_event f.now id }
+#[tactic(auto, using(fields::proofs::Tables::tables), unfolding(crate::specs::Read::id_event, crate::specs::Read::fault_event))]
+fn id_event(name: &str, id: ComponentId) -> Option<Event>
+    ensures { result ≡ id_event name.now id }
 {
-    if fields::same(f, b"VerificationPassed") {
-        return OptionEvent::OneEvent(Event::VerificationPassed(id));
+    match name {
+        "VerificationPassed" => Some(Event::VerificationPassed(id)),
+        "VerificationFailed" => Some(Event::VerificationFailed(id)),
+        "ComponentReady" => Some(Event::ComponentReady(id)),
+        "Booted" => Some(Event::Booted(id)),
+        "BootConfirmed" => Some(Event::BootConfirmed(id)),
+        "CorruptionDetected" => Some(Event::CorruptionDetected(id)),
+        "Restored" => Some(Event::Restored(id)),
+        "RecoveryUnavailable" => Some(Event::RecoveryUnavailable(id)),
+        "Timeout" => Some(Event::Timeout(id)),
+        _ => None,
     }
-    if fields::same(f, b"VerificationFailed") {
-        return OptionEvent::OneEvent(Event::VerificationFailed(id));
-    }
-    if fields::same(f, b"ComponentReady") {
-        return OptionEvent::OneEvent(Event::ComponentReady(id));
-    }
-    if fields::same(f, b"Booted") {
-        return OptionEvent::OneEvent(Event::Booted(id));
-    }
-    if fields::same(f, b"BootConfirmed") {
-        return OptionEvent::OneEvent(Event::BootConfirmed(id));
-    }
-    fault_event(f, id)
 }
 
 // PowerGood, with the result by its name.
-fn power_good(f: &[u8]) -> OptionEvent
+#[tactic(auto, using(fields::proofs::Tables::tables), unfolding(crate::specs::Read::power_good))]
+fn power_good(f: &[u8]) -> Option<Event>
     ensures { result ≡ power_good f.now }
 {
-    if fields::same(f, b"Provisioned") {
-        return OptionEvent::OneEvent(Event::PowerGood(PowerOnResult::Provisioned));
+    match as_text(f)? {
+        "Provisioned" => Some(Event::PowerGood(PowerOnResult::Provisioned)),
+        "Unprovisioned" => Some(Event::PowerGood(PowerOnResult::Unprovisioned)),
+        "SelfVerificationFailed" => Some(Event::PowerGood(PowerOnResult::SelfVerificationFailed)),
+        _ => None,
     }
-    if fields::same(f, b"Unprovisioned") {
-        return OptionEvent::OneEvent(Event::PowerGood(PowerOnResult::Unprovisioned));
-    }
-    if fields::same(f, b"SelfVerificationFailed") {
-        return OptionEvent::OneEvent(Event::PowerGood(PowerOnResult::SelfVerificationFailed));
-    }
-    OptionEvent::NoEvent
 }
 
 // BootFailed, with the failure's kind by its name.
-fn boot_failed(f: &[u8], id: ComponentId, checkpoint: u16) -> OptionEvent
+#[tactic(auto, using(fields::proofs::Tables::tables), unfolding(crate::specs::Read::boot_failed))]
+fn boot_failed(f: &[u8], id: ComponentId, checkpoint: u16) -> Option<Event>
     ensures { result ≡ boot_failed f.now id checkpoint }
 {
-    if fields::same(f, b"TimedOut") {
-        return OptionEvent::OneEvent(Event::BootFailed {
-            id: id,
-            checkpoint: checkpoint,
-            kind: BootFailureKind::TimedOut,
-        });
-    }
-    if fields::same(f, b"DeviceRetriable") {
-        return OptionEvent::OneEvent(Event::BootFailed {
-            id: id,
-            checkpoint: checkpoint,
-            kind: BootFailureKind::DeviceRetriable,
-        });
-    }
-    if fields::same(f, b"DeviceFatal") {
-        return OptionEvent::OneEvent(Event::BootFailed {
-            id: id,
-            checkpoint: checkpoint,
-            kind: BootFailureKind::DeviceFatal,
-        });
-    }
-    OptionEvent::NoEvent
+    let kind = match as_text(f)? {
+        "TimedOut" => BootFailureKind::TimedOut,
+        "DeviceRetriable" => BootFailureKind::DeviceRetriable,
+        "DeviceFatal" => BootFailureKind::DeviceFatal,
+        _ => return None,
+    };
+    Some(Event::BootFailed {
+        id,
+        checkpoint,
+        kind,
+    })
 }
 
 // The fields of BootFailed: a component, a checkpoint and a kind.
-fn boot_fields(l: &[u8]) -> OptionEvent
+#[tactic(auto, using(fields::proofs::Numbers::number_bound), unfolding(crate::specs::Read::boot_fields))]
+fn boot_fields(l: &[u8]) -> Option<Event>
     ensures { result ≡ boot_fields l.now }
 {
     let m = fields::rest(l);
-    match fields::number(fields::first(l), 255) {
-        OptionNumber::None => OptionEvent::NoEvent,
-        OptionNumber::Some(i) => match fields::number(fields::first(m), 65535) {
-            OptionNumber::None => OptionEvent::NoEvent,
-            OptionNumber::Some(c) => boot_failed(fields::rest(m), ComponentId(i as u8), c as u16),
-        },
-    }
-}
-
-// The one field of an event that names a component.
-fn id_fields(name: &[u8], l: &[u8]) -> OptionEvent
-    ensures { result ≡ id_fields name.now l.now }
-{
-    match fields::number(l, 255) {
-        OptionNumber::None => OptionEvent::NoEvent,
-        OptionNumber::Some(i) => id_event(name, ComponentId(i as u8)),
-    }
+    let i = fields::number(fields::first(l), 255)?;
+    let c = fields::number(fields::first(m), 65535)?;
+    boot_failed(fields::rest(m), ComponentId(i as u8), c as u16)
 }
 
 // An event with fields: the name tells which these are.
-fn field_event(name: &[u8], l: &[u8]) -> OptionEvent
+#[tactic(auto, using(fields::proofs::Tables::tables, fields::proofs::Numbers::number_bound), unfolding(crate::specs::Read::field_event, crate::specs::Read::id_fields))]
+fn field_event(name: &[u8], l: &[u8]) -> Option<Event>
     ensures { result ≡ field_event name.now l.now }
 {
-    if fields::same(name, b"PowerGood") {
-        return power_good(l);
+    match as_text(name)? {
+        "PowerGood" => power_good(l),
+        "BootFailed" => boot_fields(l),
+        name => id_event(name, ComponentId(fields::number(l, 255)? as u8)),
     }
-    if fields::same(name, b"BootFailed") {
-        return boot_fields(l);
-    }
-    id_fields(name, l)
 }
 
 // An event from its text, or none where the text is no event's.
-pub fn read_event(l: &[u8]) -> OptionEvent
+#[tactic(auto, unfolding(crate::specs::Read::event_of))]
+pub fn read_event(l: &[u8]) -> Option<Event>
     ensures { result ≡ event_of l.now }
 {
-    match plain_event(l) {
-        OptionEvent::OneEvent(e) => OptionEvent::OneEvent(e),
-        OptionEvent::NoEvent => field_event(fields::first(l), fields::rest(l)),
-    }
+    plain_event(l).or_else(|| field_event(fields::first(l), fields::rest(l)))
 }

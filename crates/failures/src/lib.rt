@@ -19,13 +19,10 @@ pub fn boot_timeout(chain: Chain, w: Work, id: ComponentId, p: usize, situation:
     requires { Placed chain w id p }
     ensures { Does (size chain) w (timeout (entries chain) (before situation) id) result }
 {
-    let n = chain.count();
-    let rot = w.rot;
-    let s = machine::status_at(rot, n, p);
-    if s.awaiting_boot {
-        return corruption::start_recovery(chain, w, id, p, situation);
+    if !machine::status_at(w.rot, chain.count(), p).awaiting_boot {
+        return w;
     }
-    w
+    corruption::start_recovery(chain, w, id, p, situation)
 }
 
 // A fatal failure is treated as corruption: a component that can be isolated is, with no attempt to recover it.
@@ -40,25 +37,18 @@ pub fn boot_failed(
     requires { Placed chain w id p }
     ensures { Does (size chain) w (boot_failed (entries chain) (follows situation (entries chain)) (before situation) id failure.checkpoint failure.kind) result }
 {
-    let n = chain.count();
-    let rot = w.rot;
-    let s = machine::status_at(rot, n, p);
-    if !s.awaiting_boot {
+    if !machine::status_at(w.rot, chain.count(), p).awaiting_boot {
         return w;
     }
-    let checkpoint = failure.checkpoint;
-    let kind = failure.kind;
-    let v = machine::say(
-        w,
-        Effect::ReportBootFailed {
-            id: id,
-            checkpoint: checkpoint,
-            kind: kind,
-        },
-    );
-    match kind {
-        BootFailureKind::TimedOut => corruption::start_recovery(chain, v, id, p, situation),
-        BootFailureKind::DeviceRetriable => corruption::start_recovery(chain, v, id, p, situation),
-        BootFailureKind::DeviceFatal => corruption::handle_corruption(chain, v, id, p, situation),
+    let BootFailure { checkpoint, kind } = failure;
+    let report = Effect::ReportBootFailed {
+        id,
+        checkpoint,
+        kind,
+    };
+    let v = machine::say(w, report);
+    if kind == BootFailureKind::DeviceFatal {
+        return corruption::handle_corruption(chain, v, id, p, situation);
     }
+    corruption::start_recovery(chain, v, id, p, situation)
 }

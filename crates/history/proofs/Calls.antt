@@ -1,4 +1,5 @@
 -- What holds of a machine within a call and between two, with the log so far; every turn keeps it, and so every call.
+use Rattle.std.specs.Prelude.{Option, None, Some}
 use mathlib.Core.Path.{◌≡◌, refl, sym, subst, ap, ◌∙◌}
 use mathlib.Core.Logic.{◌⊎◌, inl, inr, ⊎_elim}
 use mathlib.Core.List.Memᴰ
@@ -16,14 +17,10 @@ use Rattle.model.specs.declared.Event.TheVariants.{EffectFailed}
 use Rattle.model.specs.declared.Effect.{Effect}
 use Rattle.model.proofs.Pick.{pick_p}
 use Rattle.pending.specs.Queue.{has_room, emits}
-use Rattle.pending.specs.declared.OptionEvent.{OptionEvent}
-use Rattle.pending.specs.declared.OptionEvent.TheVariants.{NoEvent, OneEvent}
 use Rattle.machine.specs.Status.{fresh, iso}
 use Rattle.machine.specs.View.{Core}
 use Rattle.rot.specs.Step.{step_of}
 use Rattle.rot.proofs.Weight.{weigh}
-use Rattle.settling.specs.declared.Waiting.{Waiting}
-use Rattle.settling.specs.declared.Waiting.TheVariants.{Nothing, Handed}
 use Rattle.settling.specs.Settle.{Model, Run, waiting_is, queue_is, latch, fail, enqueue, hand_out, turn_by, turned, turns, settle, taken_by, noted, replied}
 use Rattle.settling.specs.declared.Reply.{Reply}
 use Rattle.settling.specs.declared.Reply.TheVariants.{Done, Then, Failed}
@@ -39,20 +36,20 @@ use Rattle.history.proofs.Locks.{locked-step, failed-step, failed-ok}
 -- ---- The invariant
 
 -- The effects of the batch that are not told yet.
-abbrev pub untold : Waiting → List Effect → List Effect
-untold Nothing es = es
-untold (Handed x) es = x ∷ es
+abbrev pub untold : Option Effect → List Effect → List Effect
+untold None es = es
+untold (Some x) es = x ∷ es
 
 abbrev pub ahead : Model → List Item → List Item
 ahead m l = foretold (untold m.waiting m.left) l
 
-abbrev pub Plain : Waiting → Type 0
-Plain Nothing = Unit {0}
-Plain (Handed x) = emits x ≡ NoEvent
+abbrev pub Plain : Option Effect → Type 0
+Plain None = Unit {0}
+Plain (Some x) = emits x ≡ None
 
 -- A failure is about to lock the machine.
 abbrev pub Doomed : Model → Type 0
-Doomed m = (q : List Event) × (m.queue ≡ EffectFailed ∷ q) × (m.left ≡ []) × (m.waiting ≡ Nothing)
+Doomed m = (q : List Event) × (m.queue ≡ EffectFailed ∷ q) × (m.left ≡ []) × (m.waiting ≡ None)
 
 -- In a walk the cursor's component is under check once the batch is out, and a failure has locked the machine; or one will.
 abbrev pub Tied : List Component → Model → List Item → Type 0
@@ -67,16 +64,16 @@ pub record Sure (ch : List Component) (m : Model) (l : List Item) : Type 0 where
   pub total : handed (ahead m l) + store m.core.statuses ≤ 4 * settled (ahead m l) + 2 * length ch
   pub tied : Tied ch m l
 
-abbrev mk : Core → Waiting → List Effect → List Event → Bool → Model
+abbrev mk : Core → Option Effect → List Effect → List Event → Bool → Model
 mk c w b q f = record { core = c; waiting = w; left = b; queue = q; failed = f }
 
 -- ---- One turn
 
 module _ (n : ℕ) (ch : List Component) (s : Sound n ch) (max : ℕ) where
   -- The front event is taken.
-  take-sure : (c : Core) (e : Event) (q : List Event) (f : Bool) (l : List Item) → Sure ch (mk c Nothing [] (e ∷ q) f) l
+  take-sure : (c : Core) (e : Event) (q : List Event) (f : Bool) (l : List Item) → Sure ch (mk c None [] (e ∷ q) f) l
       → Ok ch c.statuses e (under_check l) 4 (step_of ch max c e) → (f ≡ true → (step_of ch max c e).core.state ≡ Locked)
-      → Sure ch (mk (step_of ch max c e).core Nothing (step_of ch max c e).said q f) (Taken e ∷ l)
+      → Sure ch (mk (step_of ch max c e).core None (step_of ch max c e).said q f) (Taken e ∷ l)
   take-sure c e q f l h o g =
       let all : Through ch (step_of ch max c e).core.statuses (step_of ch max c e).said (Taken e ∷ l) =
       through ch (step_of ch max c e).core.statuses o.inv.base e (step_of ch max c e).said (Taken e ∷ l)
@@ -93,7 +90,7 @@ module _ (n : ℕ) (ch : List Component) (s : Sound n ch) (max : ℕ) where
       }
 
   -- The batch is dropped.
-  dropped : (m : Model) (l : List Item) (q : List Event) (f : Bool) → Sure ch m l → Tied ch (mk m.core Nothing [] q f) l → Sure ch (mk m.core Nothing [] q f) l
+  dropped : (m : Model) (l : List Item) (q : List Event) (f : Bool) → Sure ch m l → Tied ch (mk m.core None [] q f) l → Sure ch (mk m.core None [] q f) l
   dropped m l q f h t = record {
     inv = h.inv;
     reached = h.reached;
@@ -104,22 +101,22 @@ module _ (n : ℕ) (ch : List Component) (s : Sound n ch) (max : ℕ) where
     tied = t;
   }
 
-  latch-sure : (c : Core) (b : List Effect) (q : List Event) (f : Bool) (l : List Item) → Sure ch (mk c Nothing b q f) l → Sure ch (latch (mk c Nothing b q f)) l
-  latch-sure c b q f l h = dropped (mk c Nothing b q f) l (EffectFailed ∷ take 7 q) true h (inr (take 7 q, refl, refl, refl))
+  latch-sure : (c : Core) (b : List Effect) (q : List Event) (f : Bool) (l : List Item) → Sure ch (mk c None b q f) l → Sure ch (latch (mk c None b q f)) l
+  latch-sure c b q f l h = dropped (mk c None b q f) l (EffectFailed ∷ take 7 q) true h (inr (take 7 q, refl, refl, refl))
 
   -- A failed reply.
-  fail-sure : (c : Core) (b : List Effect) (q : List Event) (f : Bool) (l : List Item) → Sure ch (mk c Nothing b q f) l → Sure ch (fail (mk c Nothing b q f)) l
+  fail-sure : (c : Core) (b : List Effect) (q : List Event) (f : Bool) (l : List Item) → Sure ch (mk c None b q f) l → Sure ch (fail (mk c None b q f)) l
   fail-sure c b q f l h =
       pick_p (λ (m : Model). Sure ch m l) f
       (λ u.
-      dropped (mk c Nothing b q f) l q f h
+      dropped (mk c None b q f) l q f h
       (⊎_elim
       (λ (t : Linked ch c (under_check (foretold b l)) × (f ≡ true → c.state ≡ Locked)). inl (λ v w. both (walking c.state) v (ap walking (t.1 u)), t.1))
-      (λ (d : Doomed (mk c Nothing b q f)). inr (d.0, d.1, refl, refl))
+      (λ (d : Doomed (mk c None b q f)). inr (d.0, d.1, refl, refl))
       h.tied))
       (λ u. latch-sure c b q f l h)
 
-  queue-sure : (c : Core) (b : List Effect) (q : List Event) (f : Bool) (e : Event) (l : List Item) → Sure ch (mk c Nothing b q f) l → Sure ch (mk c Nothing b (q ++ (e ∷ [])) f) l
+  queue-sure : (c : Core) (b : List Effect) (q : List Event) (f : Bool) (e : Event) (l : List Item) → Sure ch (mk c None b q f) l → Sure ch (mk c None b (q ++ (e ∷ [])) f) l
   queue-sure c b q f e l h = record {
     inv = h.inv;
     reached = h.reached;
@@ -129,23 +126,23 @@ module _ (n : ℕ) (ch : List Component) (s : Sound n ch) (max : ℕ) where
     total = h.total;
     tied = ⊎_elim
         (λ (t : Linked ch c (under_check (foretold b l)) × (f ≡ true → c.state ≡ Locked)). inl t)
-        (λ (d : Doomed (mk c Nothing b q f)). inr (d.0 ++ (e ∷ []), ap (λ (r : List Event). r ++ (e ∷ [])) d.1, d.2, d.3))
+        (λ (d : Doomed (mk c None b q f)). inr (d.0 ++ (e ∷ []), ap (λ (r : List Event). r ++ (e ∷ [])) d.1, d.2, d.3))
         h.tied;
   }
 
-  enqueue-sure : (c : Core) (b : List Effect) (q : List Event) (f : Bool) (e : Event) (l : List Item) → Sure ch (mk c Nothing b q f) l → Sure ch (enqueue e (mk c Nothing b q f)) l
+  enqueue-sure : (c : Core) (b : List Effect) (q : List Event) (f : Bool) (e : Event) (l : List Item) → Sure ch (mk c None b q f) l → Sure ch (enqueue e (mk c None b q f)) l
   enqueue-sure c b q f e l h =
       pick_p (λ (m : Model). Sure ch m l) (has_room q)
       (λ t. queue-sure c b q f e l h)
       (λ t. pick_p (λ (m : Model). Sure ch m l) f (λ u. h) (λ u. latch-sure c b q f l h))
 
   -- The next effect of a batch: o is the event that it queues.
-  not-doomed : {A : Type 0} (c : Core) (x : Effect) (b : List Effect) (q : List Event) (f : Bool) → Doomed (mk c Nothing (x ∷ b) q f) → A
+  not-doomed : {A : Type 0} (c : Core) (x : Effect) (b : List Effect) (q : List Event) (f : Bool) → Doomed (mk c None (x ∷ b) q f) → A
   not-doomed c x b q f d = let z : ◌≡◌ {A = ℕ} 0 1 = cc d.2 in absurd (omega arith)
 
-  hand-sure : (c : Core) (x : Effect) (b : List Effect) (q : List Event) (f : Bool) (l : List Item) (o : OptionEvent) → emits x ≡ o → Sure ch (mk c Nothing (x ∷ b) q f) l
-      → Sure ch (hand_out x b (mk c Nothing (x ∷ b) q f) o) l
-  hand-sure c x b q f l NoEvent p h = record {
+  hand-sure : (c : Core) (x : Effect) (b : List Effect) (q : List Event) (f : Bool) (l : List Item) (o : Option Event) → emits x ≡ o → Sure ch (mk c None (x ∷ b) q f) l
+      → Sure ch (hand_out x b (mk c None (x ∷ b) q f) o) l
+  hand-sure c x b q f l None p h = record {
     inv = h.inv;
     reached = h.reached;
     plain = p;
@@ -154,21 +151,21 @@ module _ (n : ℕ) (ch : List Component) (s : Sound n ch) (max : ℕ) where
     total = h.total;
     tied = ⊎_elim
         (λ (t : Linked ch c (under_check (foretold (x ∷ b) l)) × (f ≡ true → c.state ≡ Locked)). inl t)
-        (λ (d : Doomed (mk c Nothing (x ∷ b) q f)). not-doomed c x b q f d)
+        (λ (d : Doomed (mk c None (x ∷ b) q f)). not-doomed c x b q f d)
         h.tied;
   }
-  hand-sure c x b q f l (OneEvent e) p h =
+  hand-sure c x b q f l (Some e) p h =
       enqueue-sure c b q f e l
       record {
         inv = h.inv;
         reached = h.reached;
         plain = tt;
-        kept = subst (λ (o : OptionEvent). Kept ch (foretold b (told o x l))) p h.kept;
-        reports = subst (λ (o : OptionEvent). Reports ch c.statuses (foretold b (told o x l))) p h.reports;
-        total = subst (λ (o : OptionEvent). handed (foretold b (told o x l)) + store c.statuses ≤ 4 * settled (foretold b (told o x l)) + 2 * length ch) p h.total;
+        kept = subst (λ (o : Option Event). Kept ch (foretold b (told o x l))) p h.kept;
+        reports = subst (λ (o : Option Event). Reports ch c.statuses (foretold b (told o x l))) p h.reports;
+        total = subst (λ (o : Option Event). handed (foretold b (told o x l)) + store c.statuses ≤ 4 * settled (foretold b (told o x l)) + 2 * length ch) p h.total;
         tied = ⊎_elim
-            (λ (t : Linked ch c (under_check (foretold (x ∷ b) l)) × (f ≡ true → c.state ≡ Locked)). inl (λ u v. ap (λ (o : OptionEvent). under_check (foretold b (told o x l))) (sym p) ∙ t.0 u v, t.1))
-            (λ (d : Doomed (mk c Nothing (x ∷ b) q f)). not-doomed c x b q f d)
+            (λ (t : Linked ch c (under_check (foretold (x ∷ b) l)) × (f ≡ true → c.state ≡ Locked)). inl (λ u v. ap (λ (o : Option Event). under_check (foretold b (told o x l))) (sym p) ∙ t.0 u v, t.1))
+            (λ (d : Doomed (mk c None (x ∷ b) q f)). not-doomed c x b q f d)
             h.tied;
       }
 
@@ -179,7 +176,7 @@ module _ (n : ℕ) (ch : List Component) (s : Sound n ch) (max : ℕ) where
   no_front r p = let z : ◌≡◌ {A = ℕ} 0 1 = cc in absurd (omega arith)
 
   -- The dispatch has ended, and its failure with it; or it begins.
-  calm : (c : Core) (b : List Effect) (f g : Bool) (q : List Event) (l : List Item) → (g ≡ true → f ≡ true) → Sure ch (mk c Nothing b [] f) l → Sure ch (mk c Nothing b q g) l
+  calm : (c : Core) (b : List Effect) (f g : Bool) (q : List Event) (l : List Item) → (g ≡ true → f ≡ true) → Sure ch (mk c None b [] f) l → Sure ch (mk c None b q g) l
   calm c b f g q l k h = record {
     inv = h.inv;
     reached = h.reached;
@@ -189,7 +186,7 @@ module _ (n : ℕ) (ch : List Component) (s : Sound n ch) (max : ℕ) where
     total = h.total;
     tied = ⊎_elim
         (λ (t : Linked ch c (under_check (foretold b l)) × (f ≡ true → c.state ≡ Locked)). inl (t.0, λ u. t.1 (k u)))
-        (λ (d : Doomed (mk c Nothing b [] f)). no_front d.0 d.1)
+        (λ (d : Doomed (mk c None b [] f)). no_front d.0 d.1)
         h.tied;
   }
 
@@ -199,20 +196,20 @@ module _ (n : ℕ) (ch : List Component) (s : Sound n ch) (max : ℕ) where
     abbrev Going : Model → List Event → Type 0
     Going m es = Sure ch m (map Taken es ++ past)
 
-    turn-sure : (c : Core) (w : Waiting) (b : List Effect) (q : List Event) (f : Bool) (es : List Event) → Going (mk c w b q f) es
+    turn-sure : (c : Core) (w : Option Effect) (b : List Effect) (q : List Event) (f : Bool) (es : List Event) → Going (mk c w b q f) es
         → Going (turn_by ch max (mk c w b q f) w b q) (noted (taken_by w b q) es)
-    turn-sure c (Handed x) b q f es h = h
-    turn-sure c Nothing (x ∷ b) q f es h = hand-sure c x b q f (map Taken es ++ past) (emits x) refl h
-    turn-sure c Nothing [] (e ∷ q) f es h =
+    turn-sure c (Some x) b q f es h = h
+    turn-sure c None (x ∷ b) q f es h = hand-sure c x b q f (map Taken es ++ past) (emits x) refl h
+    turn-sure c None [] (e ∷ q) f es h =
         let l : List Item = map Taken es ++ past in
         ⊎_elim
         (λ (t : Linked ch c (under_check l) × (f ≡ true → c.state ≡ Locked)). take-sure c e q f l h (step_ok n ch s (under_check l) c h.inv t.0 max e) (λ g. locked-step ch max c e (t.1 g)))
-        (λ (d : Doomed (mk c Nothing [] (e ∷ q) f)).
+        (λ (d : Doomed (mk c None [] (e ∷ q) f)).
         take-sure c e q f l h
         (subst (λ (k : Event). Ok ch c.statuses k (under_check l) 4 (step_of ch max c k)) (sym (front e q d.0 d.1)) (failed-ok n ch s max c (under_check l) h.inv))
         (λ g. subst (λ (k : Event). (step_of ch max c k).core.state ≡ Locked) (sym (front e q d.0 d.1)) (failed-step ch max c)))
         h.tied
-    turn-sure c Nothing [] [] f es h = calm c [] f false [] (map Taken es ++ past) (λ u. not-true u) h
+    turn-sure c None [] [] f es h = calm c [] f false [] (map Taken es ++ past) (λ u. not-true u) h
 
     turns-sure : (k : ℕ) (r : Run) → Going r.machine r.settled → Going (turns ch max k r).machine (turns ch max k r).settled
     unfolding turns
@@ -229,24 +226,24 @@ module _ (n : ℕ) (ch : List Component) (s : Sound n ch) (max : ℕ) where
 
   -- Between two calls: the effect that waits has been told.
   abbrev pub Rested : Model → List Item → Type 0
-  Rested m l = Sure ch (waiting_is Nothing m) l
+  Rested m l = Sure ch (waiting_is None m) l
 
   -- What a call adds to the log.
   abbrev pub adds : Expected → List Item
   adds x = handed_by record { number = x.number; effect = x.effect } ++ map Taken x.settled
 
-  rest-sure : (c : Core) (w : Waiting) (b : List Effect) (q : List Event) (f : Bool) (l : List Item) → Sure ch (mk c w b q f) l → Rested (mk c w b q f) (given w ++ l)
-  rest-sure c Nothing b q f l h = h
-  rest-sure c (Handed x) b q f l h = record {
+  rest-sure : (c : Core) (w : Option Effect) (b : List Effect) (q : List Event) (f : Bool) (l : List Item) → Sure ch (mk c w b q f) l → Rested (mk c w b q f) (given w ++ l)
+  rest-sure c None b q f l h = h
+  rest-sure c (Some x) b q f l h = record {
     inv = h.inv;
     reached = h.reached;
     plain = tt;
-    kept = subst (λ (o : OptionEvent). Kept ch (foretold b (told o x l))) h.plain h.kept;
-    reports = subst (λ (o : OptionEvent). Reports ch c.statuses (foretold b (told o x l))) h.plain h.reports;
-    total = subst (λ (o : OptionEvent). handed (foretold b (told o x l)) + store c.statuses ≤ 4 * settled (foretold b (told o x l)) + 2 * length ch) h.plain h.total;
+    kept = subst (λ (o : Option Event). Kept ch (foretold b (told o x l))) h.plain h.kept;
+    reports = subst (λ (o : Option Event). Reports ch c.statuses (foretold b (told o x l))) h.plain h.reports;
+    total = subst (λ (o : Option Event). handed (foretold b (told o x l)) + store c.statuses ≤ 4 * settled (foretold b (told o x l)) + 2 * length ch) h.plain h.total;
     tied = ⊎_elim
-        (λ (t : Linked ch c (under_check (foretold (x ∷ b) l)) × (f ≡ true → c.state ≡ Locked)). inl (λ u v. ap (λ (o : OptionEvent). under_check (foretold b (told o x l))) (sym h.plain) ∙ t.0 u v, t.1))
-        (λ (d : Doomed (mk c (Handed x) b q f)). let z : ◌≡◌ {A = ℕ} 0 1 = cc d.3 in absurd (omega arith))
+        (λ (t : Linked ch c (under_check (foretold (x ∷ b) l)) × (f ≡ true → c.state ≡ Locked)). inl (λ u v. ap (λ (o : Option Event). under_check (foretold b (told o x l))) (sym h.plain) ∙ t.0 u v, t.1))
+        (λ (d : Doomed (mk c (Some x) b q f)). let z : ◌≡◌ {A = ℕ} 0 1 = cc d.3 in absurd (omega arith))
         h.tied;
   }
 
@@ -258,24 +255,24 @@ module _ (n : ℕ) (ch : List Component) (s : Sound n ch) (max : ℕ) where
   abbrev Leaves : List Item → Expected → Type 0
   Leaves l x = Rested x.machine (adds x ++ l)
 
-  begun : (c : Core) (w : Waiting) (b : List Effect) (q : List Event) (f : Bool) (e : Event) (l : List Item) → Rested (mk c w b q f) l
+  begun : (c : Core) (w : Option Effect) (b : List Effect) (q : List Event) (f : Bool) (e : Event) (l : List Item) → Rested (mk c w b q f) l
       → Leaves l (pick (done_by w q) (answered (settle ch max (queue_is (e ∷ []) (mk c w b q f)))) (refused 10 (mk c w b q f)))
-  begun c (Handed x) b q f e l h = h
-  begun c Nothing b (g ∷ q) f e l h = h
-  begun c Nothing b [] f e l h =
-      answered-rested (settle ch max (mk c Nothing b (e ∷ []) f)) l
-      (settle-sure l (mk c Nothing b (e ∷ []) f) (calm c b f f (e ∷ []) l (λ u. u) h))
+  begun c (Some x) b q f e l h = h
+  begun c None b (g ∷ q) f e l h = h
+  begun c None b [] f e l h =
+      answered-rested (settle ch max (mk c None b (e ∷ []) f)) l
+      (settle-sure l (mk c None b (e ∷ []) f) (calm c b f f (e ∷ []) l (λ u. u) h))
 
-  replied-sure : (a : Reply) (c : Core) (b : List Effect) (q : List Event) (f : Bool) (l : List Item) → Sure ch (mk c Nothing b q f) l → Sure ch (replied a (mk c Nothing b q f)) l
+  replied-sure : (a : Reply) (c : Core) (b : List Effect) (q : List Event) (f : Bool) (l : List Item) → Sure ch (mk c None b q f) l → Sure ch (replied a (mk c None b q f)) l
   replied-sure Done c b q f l h = h
   replied-sure (Then e) c b q f l h = enqueue-sure c b q f e l h
   replied-sure Failed c b q f l h = fail-sure c b q f l h
 
-  answers : (c : Core) (w : Waiting) (b : List Effect) (q : List Event) (f : Bool) (a : Reply) (l : List Item) → Rested (mk c w b q f) l
+  answers : (c : Core) (w : Option Effect) (b : List Effect) (q : List Event) (f : Bool) (a : Reply) (l : List Item) → Rested (mk c w b q f) l
       → Leaves l (reply_by ch max (mk c w b q f) a w)
-  answers c Nothing b q f a l h = h
-  answers c (Handed x) b q f a l h =
-      answered-rested (settle ch max (replied a (mk c Nothing b q f))) l (settle-sure l (replied a (mk c Nothing b q f)) (replied-sure a c b q f l h))
+  answers c None b q f a l h = h
+  answers c (Some x) b q f a l h =
+      answered-rested (settle ch max (replied a (mk c None b q f))) l (settle-sure l (replied a (mk c None b q f)) (replied-sure a c b q f l h))
 
   pub call-rested : (m : Model) (k : Call) (l : List Item) → Rested m l → Rested (expected ch max m k).machine (adds (expected ch max m k) ++ l)
   unfolding begin_of reply_of

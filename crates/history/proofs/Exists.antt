@@ -1,5 +1,6 @@
 -- Demand 3 is about something: of every list of calls there is a history of the code's own structs. Each machine that the
 -- definitions reach fits into the struct, and is at rest between two calls since settling ends.
+use Rattle.std.specs.Prelude.{Option, None, Some, Result, Ok, Err}
 use mathlib.Core.Path.{◌≡◌, refl, sym, subst, ap, ◌∙◌}
 use mathlib.Core.Bool.{Bool, true, false}
 use mathlib.Core.List.{List, [], ◌∷◌, ◌++◌}
@@ -8,24 +9,19 @@ use native.Mathlib.Omega.{arith}
 use lib.ListN.{length, length-append, length-take, length-replicate}
 use borrow.Author.Tests.{ltb-true}
 use Rattle.model.specs.Vocabulary.{pick}
-use Rattle.components.specs.Chain.{entries_of, verdict_of, answer_of, Sound}
+use Rattle.components.specs.Chain.{entries_of, verdict_of, answer_of, Sound, no_refusal}
 use Rattle.model.specs.declared.Component.{Component}
 use Rattle.components.specs.declared.ComponentList.{ComponentList}
-use Rattle.components.specs.declared.Verdict.TheVariants.{Accepted}
 use Rattle.model.specs.declared.Event.{Event}
 use Rattle.model.specs.declared.Effect.{Effect}
 use Rattle.model.proofs.Pick.{pick_p}
 use Rattle.components.proofs.Accepted.{accepted}
 use Rattle.chain.specs.Tables.{entries}
 use Rattle.pending.specs.Queue.{has_room, emits}
-use Rattle.pending.specs.declared.OptionEvent.{OptionEvent}
-use Rattle.pending.specs.declared.OptionEvent.TheVariants.{NoEvent, OneEvent}
 use Rattle.machine.specs.Status.{fresh}
 use Rattle.machine.specs.View.{Core}
 use Rattle.rot.proofs.Bound.{step-length, step-cursor}
 use Rattle.settling.specs.declared.Machine.{Machine}
-use Rattle.settling.specs.declared.Waiting.{Waiting}
-use Rattle.settling.specs.declared.Waiting.TheVariants.{Nothing, Handed}
 use Rattle.settling.specs.Settle.{Model, Run, queue_is, latch, fail, enqueue, hand_out, turn_by, turned, turns, settle, replied}
 use Rattle.settling.specs.View.{view, chain_of, Rests, Valid}
 use Rattle.settling.proofs.Ends.{settle-ends}
@@ -33,7 +29,9 @@ use Rattle.sm.specs.declared.Called.{Called}
 use Rattle.settling.specs.declared.Reply.{Reply}
 use Rattle.settling.specs.declared.Reply.TheVariants.{Done, Then, Failed}
 use Rattle.sm.specs.Calls.{Expected, answered, refused, done_by, begin_of, reply_by, reply_of, start_of}
-use Rattle.sm.specs.Gives.{NewGives, CallGives}
+use Rattle.sm.specs.Gives.{NewGives, number_of, CallGives}
+use Rattle.sm.specs.declared.CallError.{CallError}
+use Rattle.sm.specs.declared.CallError.TheVariants.{NothingWaits, NotDone}
 use Rattle.history.specs.History.{Call, Begin, ReplyTo, expected, machine_after, expected_after, answers_to}
 use Rattle.history.specs.Demand.{Follows, made, called, History, NotEmpty}
 use Rattle.history.proofs.Few.{Reached, step-reached, step-few, start-reached}
@@ -49,12 +47,12 @@ record Held (ch : List Component) (m : Model) : Type 0 where
   room : length m.left ≤ 2 * length ch + 1
   few : length m.queue ≤ 8
 
-abbrev mk : Core → Waiting → List Effect → List Event → Bool → Model
+abbrev mk : Core → Option Effect → List Effect → List Event → Bool → Model
 mk c w b q f = record { core = c; waiting = w; left = b; queue = q; failed = f }
 
 module _ (ch : List Component) (max : ℕ) where
   -- The same core, and no more of a batch.
-  as-held : (m : Model) (w : Waiting) (b : List Effect) (q : List Event) (f : Bool) → Held ch m → length b ≤ length m.left → length q ≤ 8 → Held ch (mk m.core w b q f)
+  as-held : (m : Model) (w : Option Effect) (b : List Effect) (q : List Event) (f : Bool) → Held ch m → length b ≤ length m.left → length q ≤ 8 → Held ch (mk m.core w b q f)
   as-held m w b q f h l k = record { sized = h.sized; low = h.low; reached = h.reached; room = omega (arith, h.room); few = k }
 
   latch-held : (m : Model) → Held ch m → Held ch (latch m)
@@ -69,21 +67,21 @@ module _ (ch : List Component) (max : ℕ) where
       (λ t. as-held m m.waiting m.left (m.queue ++ (e ∷ [])) m.failed h (omega arith) (omega (arith, length-append m.queue (e ∷ []), ltb-true (length m.queue) 8 t)))
       (λ t. pick_p (Held ch) m.failed (λ u. h) (λ u. latch-held m h))
 
-  hand-held : (c : Core) (x : Effect) (b : List Effect) (q : List Event) (f : Bool) (o : OptionEvent) → Held ch (mk c Nothing (x ∷ b) q f) → Held ch (hand_out x b (mk c Nothing (x ∷ b) q f) o)
-  hand-held c x b q f NoEvent h = as-held (mk c Nothing (x ∷ b) q f) (Handed x) b q f h (omega arith) h.few
-  hand-held c x b q f (OneEvent e) h = enqueue-held e (mk c Nothing b q f) (as-held (mk c Nothing (x ∷ b) q f) Nothing b q f h (omega arith) h.few)
+  hand-held : (c : Core) (x : Effect) (b : List Effect) (q : List Event) (f : Bool) (o : Option Event) → Held ch (mk c None (x ∷ b) q f) → Held ch (hand_out x b (mk c None (x ∷ b) q f) o)
+  hand-held c x b q f None h = as-held (mk c None (x ∷ b) q f) (Some x) b q f h (omega arith) h.few
+  hand-held c x b q f (Some e) h = enqueue-held e (mk c None b q f) (as-held (mk c None (x ∷ b) q f) None b q f h (omega arith) h.few)
 
-  turn-held : (c : Core) (w : Waiting) (b : List Effect) (q : List Event) (f : Bool) → Held ch (mk c w b q f) → Held ch (turn_by ch max (mk c w b q f) w b q)
-  turn-held c (Handed x) b q f h = h
-  turn-held c Nothing (x ∷ b) q f h = hand-held c x b q f (emits x) h
-  turn-held c Nothing [] (e ∷ q) f h = record {
+  turn-held : (c : Core) (w : Option Effect) (b : List Effect) (q : List Event) (f : Bool) → Held ch (mk c w b q f) → Held ch (turn_by ch max (mk c w b q f) w b q)
+  turn-held c (Some x) b q f h = h
+  turn-held c None (x ∷ b) q f h = hand-held c x b q f (emits x) h
+  turn-held c None [] (e ∷ q) f h = record {
     sized = step-length ch max c e h.sized ∙ h.sized;
     low = step-cursor ch max c e h.low h.sized;
     reached = step-reached ch max c e h.reached;
     room = step-few ch max c e h.reached h.sized;
     few = omega (arith, h.few);
   }
-  turn-held c Nothing [] [] f h = as-held (mk c Nothing [] [] f) Nothing [] [] false h (omega arith) h.few
+  turn-held c None [] [] f h = as-held (mk c None [] [] f) None [] [] false h (omega arith) h.few
 
   turns-held : (k : ℕ) (r : Run) → Held ch r.machine → Held ch (turns ch max k r).machine
   unfolding turns
@@ -96,17 +94,17 @@ module _ (ch : List Component) (max : ℕ) where
 
   -- A reply leaves no effect waiting.
   abbrev Free : Model → Type 0
-  Free m = (m.waiting ≡ Nothing) × Held ch m
+  Free m = (m.waiting ≡ None) × Held ch m
 
-  waiting-same : (P : Waiting → Type 0) (e : Event) (m : Model) → P m.waiting → P (enqueue e m).waiting
+  waiting-same : (P : Option Effect → Type 0) (e : Event) (m : Model) → P m.waiting → P (enqueue e m).waiting
   waiting-same P e m h =
       pick_p (λ (n : Model). P n.waiting) (has_room m.queue) (λ t. h)
       (λ t. pick_p (λ (n : Model). P n.waiting) m.failed (λ u. h) (λ u. h))
 
   replied-free : (a : Reply) (m : Model) → Free m → Free (replied a m)
   replied-free Done m h = h
-  replied-free (Then e) m h = (waiting-same (λ (w : Waiting). w ≡ Nothing) e m h.0, enqueue-held e m h.1)
-  replied-free Failed m h = (pick_p (λ (n : Model). n.waiting ≡ Nothing) m.failed (λ t. h.0) (λ t. h.0), fail-held m h.1)
+  replied-free (Then e) m h = (waiting-same (λ (w : Option Effect). w ≡ None) e m h.0, enqueue-held e m h.1)
+  replied-free Failed m h = (pick_p (λ (n : Model). n.waiting ≡ None) m.failed (λ t. h.0) (λ t. h.0), fail-held m h.1)
 
 -- ---- Between two calls
 
@@ -133,18 +131,18 @@ module _ (ch : List Component) (max : ℕ) where
         kept = λ u. absurd (u refl);
       }
 
-  begun : (c : Core) (w : Waiting) (b : List Effect) (q : List Event) (f : Bool) (e : Event) → Standing (mk c w b q f)
+  begun : (c : Core) (w : Option Effect) (b : List Effect) (q : List Event) (f : Bool) (e : Event) → Standing (mk c w b q f)
       → Answering (mk c w b q f) (pick (done_by w q) (answered (settle ch max (queue_is (e ∷ []) (mk c w b q f)))) (refused 10 (mk c w b q f)))
-  begun c (Handed x) b q f e s = refusing 10 (mk c (Handed x) b q f) s
-  begun c Nothing b (g ∷ q) f e s = refusing 10 (mk c Nothing b (g ∷ q) f) s
-  begun c Nothing b [] f e s =
-      settling (mk c Nothing b [] f) (mk c Nothing b (e ∷ []) f) (refl, as-held ch max (mk c Nothing b [] f) Nothing b (e ∷ []) f s.held (omega arith) (omega arith))
+  begun c (Some x) b q f e s = refusing 10 (mk c (Some x) b q f) s
+  begun c None b (g ∷ q) f e s = refusing 10 (mk c None b (g ∷ q) f) s
+  begun c None b [] f e s =
+      settling (mk c None b [] f) (mk c None b (e ∷ []) f) (refl, as-held ch max (mk c None b [] f) None b (e ∷ []) f s.held (omega arith) (omega arith))
 
-  answers : (c : Core) (w : Waiting) (b : List Effect) (q : List Event) (f : Bool) (a : Reply) → Standing (mk c w b q f) → Answering (mk c w b q f) (reply_by ch max (mk c w b q f) a w)
-  answers c Nothing b q f a s = refusing 7 (mk c Nothing b q f) s
-  answers c (Handed x) b q f a s =
-      settling (mk c (Handed x) b q f) (replied a (mk c Nothing b q f))
-      (replied-free ch max a (mk c Nothing b q f) (refl, as-held ch max (mk c (Handed x) b q f) Nothing b q f s.held (omega arith) s.held.few))
+  answers : (c : Core) (w : Option Effect) (b : List Effect) (q : List Event) (f : Bool) (a : Reply) → Standing (mk c w b q f) → Answering (mk c w b q f) (reply_by ch max (mk c w b q f) a w)
+  answers c None b q f a s = refusing 7 (mk c None b q f) s
+  answers c (Some x) b q f a s =
+      settling (mk c (Some x) b q f) (replied a (mk c None b q f))
+      (replied-free ch max a (mk c None b q f) (refl, as-held ch max (mk c (Some x) b q f) None b q f s.held (omega arith) s.held.few))
 
   call-answers : (m : Model) (k : Call) → Standing m → Answering m (expected ch max m k)
   unfolding begin_of reply_of
@@ -163,9 +161,31 @@ module _ (ch : List Component) (max : ℕ) where
   stands [] = start-stands
   stands (k ∷ ks) = (call-answers (machine_after ch max ks) k (stands ks)).standing
 
+-- What the code answers to a call on a machine, and that its number is the one that document 01 gives.
+abbrev told_to : Option Effect → Result (Unit {0}) CallError
+told_to None = Err NothingWaits
+told_to (Some x) = Ok tt
+
+abbrev told_by : Model → Call → Result (Unit {0}) CallError
+told_by m (Begin e) = pick (done_by m.waiting m.queue) (Ok tt) (Err NotDone)
+told_by m (ReplyTo a) = told_to m.waiting
+
+told-reply : (ch : List Component) (max : ℕ) (m : Model) (a : Reply) (w : Option Effect) → number_of (told_to w) ≡ (reply_by ch max m a w).number
+told-reply ch max m a None = refl
+told-reply ch max m a (Some x) = refl
+
+told-pick : (b : Bool) (x y : Expected) → x.number ≡ 0 → y.number ≡ 10 → number_of (pick b (Ok tt) (Err NotDone)) ≡ (pick b x y).number
+told-pick true x y h g = sym h
+told-pick false x y h g = sym g
+
+told-number : (ch : List Component) (max : ℕ) (m : Model) (k : Call) → number_of (told_by m k) ≡ (expected ch max m k).number
+unfolding begin_of reply_of
+told-number ch max m (Begin e) = told-pick (done_by m.waiting m.queue) _ _ refl refl
+told-number ch max m (ReplyTo a) = told-reply ch max m a m.waiting
+
 -- ---- The history
 
-module _ (l : ComponentList) (max : ℕ) (v : verdict_of l.len (entries_of l) ≡ Accepted) where
+module _ (l : ComponentList) (max : ℕ) (v : verdict_of l.len (entries_of l) ≡ no_refusal) where
   sound : Sound l.len (entries_of l)
   sound = (accepted l.len (entries_of l)).0 v
 
@@ -209,7 +229,7 @@ module _ (l : ComponentList) (max : ℕ) (v : verdict_of l.len (entries_of l) �
       ∙ ap (λ (m : Model). expected (entries_of l) max m k) (read ks))
 
   abbrev gives : List Call → Call → Called
-  gives ks k = record { machine = at (k ∷ ks); number = (expected_after (entries_of l) max ks k).number; effect = (expected_after (entries_of l) max ks k).effect }
+  gives ks k = record { machine = at (k ∷ ks); answer = told_by (machine_after (entries_of l) max ks) k; effect = (expected_after (entries_of l) max ks k).effect }
 
   next : (ks : List Call) (k : Call) → machine_after (entries_of l) max (k ∷ ks) ≡ (expected_after (entries_of l) max ks k).machine
   unfolding machine_after
@@ -220,7 +240,7 @@ module _ (l : ComponentList) (max : ℕ) (v : verdict_of l.len (entries_of l) �
       let a = call-answers (entries_of l) max (machine_after (entries_of l) max ks) k (stands (entries_of l) max ks) in
       record {
         machine = read (k ∷ ks) ∙ next ks k;
-        number = refl;
+        number = told-number (entries_of l) max (machine_after (entries_of l) max ks) k;
         effect = refl;
         chain = same-chain (k ∷ ks) ks;
         max_retry = limited (k ∷ ks) ∙ sym (limited ks);
@@ -229,24 +249,23 @@ module _ (l : ComponentList) (max : ℕ) (v : verdict_of l.len (entries_of l) �
         valid = valid (k ∷ ks);
       }
 
-  begins : NewGives l max record { machine = at []; answer = answer_of (verdict_of l.len (entries_of l)) }
+  begins : NewGives l max (Ok (at []))
   unfolding machine_after
-  begins = record {
-    answer = refl;
-    accepted = λ u. record { machine = read []; chain = chained []; max_retry = limited []; valid = valid [] };
-    refused = λ u. absurd (u v);
-  }
+  begins = (v, record { machine = read []; chain = chained []; max_retry = limited []; valid = valid [] })
 
   follows : (ks : List Call) → Follows l max ks (answers_to (entries_of l) max ks) (at ks)
   unfolding answers_to
-  follows [] = made record { machine = at []; answer = answer_of (verdict_of l.len (entries_of l)) } v begins
-  follows (k ∷ ks) = called k (gives ks k) (follows ks) (valid ks) (subst (λ (x : Expected). CallGives (at ks) x (gives ks k)) (asked ks k) (gave ks k))
+  follows [] = made (at []) begins
+  follows (k ∷ ks) =
+      subst (λ (n : ℕ). Follows l max (k ∷ ks) (record { number = n; effect = (expected_after (entries_of l) max ks k).effect } ∷ answers_to (entries_of l) max ks) (at (k ∷ ks)))
+      (told-number (entries_of l) max (machine_after (entries_of l) max ks) k)
+      (called k (gives ks k) (follows ks) (valid ks) (subst (λ (x : Expected). CallGives (at ks) x (gives ks k)) (asked ks k) (gave ks k)))
 
   sizes : (ks : List Call) → Sizes (at ks)
   sizes ks = store-sizes l sound max (machine_after (entries_of l) max ks) (fits (machine_after (entries_of l) max ks) (stands (entries_of l) max ks))
 
 -- There is a history, and its machine has arrays of the lengths that the code declares.
-pub sized-history : (l : ComponentList) (max : ℕ) (ks : List Call) → verdict_of l.len (entries_of l) ≡ Accepted → (h : History l max ks) × Sizes h.machine
+pub sized-history : (l : ComponentList) (max : ℕ) (ks : List Call) → verdict_of l.len (entries_of l) ≡ no_refusal → (h : History l max ks) × Sizes h.machine
 sized-history l max ks v = (record { answers = answers_to (entries_of l) max ks; machine = at l max v ks; follows = follows l max v ks }, sizes l max v ks)
 
 pub not-empty : NotEmpty

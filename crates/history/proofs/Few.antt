@@ -1,6 +1,7 @@
 -- A step hands out at most 2 N + 1 effects. `rot` has it for a chain with a component. The definitions do not ask that a
 -- list holds as many entries as it says, so the chain may have none; then no event that names a component does anything,
 -- and few states are reached.
+use Rattle.std.specs.Prelude.{Some}
 use mathlib.Core.Path.{◌≡◌, refl, subst}
 use mathlib.Core.List.{List, [], ◌∷◌}
 use mathlib.Core.Bool.{Bool, true, false}
@@ -13,7 +14,6 @@ use Rattle.model.specs.Vocabulary.{named}
 use Rattle.components.specs.Chain.{position}
 use Rattle.model.specs.declared.ComponentId.{ComponentId}
 use Rattle.model.specs.declared.Component.{Component}
-use Rattle.model.specs.declared.OptionId.TheVariants.{Some}
 use Rattle.model.specs.declared.PowerOnResult.{PowerOnResult}
 use Rattle.model.specs.declared.PowerOnResult.TheVariants.{Provisioned, Unprovisioned, SelfVerificationFailed}
 use Rattle.model.specs.declared.State.{State}

@@ -1,4 +1,6 @@
 -- Locked is left by nothing, and EffectFailed leads to it from everywhere.
+use Rattle.std.specs.Prelude.{Option}
+use Rattle.model.specs.declared.ComponentId.{ComponentId}
 use mathlib.Core.Path.{◌≡◌, refl, sym, subst, ap}
 use mathlib.Core.List.{List, []}
 use Prim.Native.Nat.{ℕ}
@@ -6,7 +8,6 @@ use native.Mathlib.Omega.{arith}
 use Rattle.model.specs.Vocabulary.{pick, named}
 use Rattle.components.specs.Chain.{Sound}
 use Rattle.model.specs.declared.Component.{Component}
-use Rattle.model.specs.declared.OptionId.{OptionId}
 use Rattle.model.specs.declared.State.{State}
 use Rattle.model.specs.declared.State.TheVariants.{Locked}
 use Rattle.model.specs.declared.Event.{Event}
@@ -52,7 +53,7 @@ unfolding step_of
 failed-step ch max c = told_state (λ (o : Out). o.core.state ≡ Locked) c.state (λ q. refl) (λ q. refl) (λ o q. refl) (λ q. refl) (λ q. refl) (λ i q. refl) (λ q. q)
 
 -- EffectFailed needs nothing of the component under check.
-pub failed-ok : (n : ℕ) (ch : List Component) → Sound n ch → (max : ℕ) (c : Core) (old : OptionId) → Inv ch c → Ok ch c.statuses EffectFailed old 4 (step_of ch max c EffectFailed)
+pub failed-ok : (n : ℕ) (ch : List Component) → Sound n ch → (max : ℕ) (c : Core) (old : Option ComponentId) → Inv ch c → Ok ch c.statuses EffectFailed old 4 (step_of ch max c EffectFailed)
 unfolding step_of
 failed-ok n ch s max c old v =
     told_state (Ok ch c.statuses EffectFailed old 4) c.state (λ q. l) (λ q. l) (λ o q. l) (λ q. l) (λ q. l) (λ i q. l)

@@ -1,5 +1,6 @@
 -- A log, and the effects of a batch that are still to be handed out: what holds of the log with all of them holds of it with
 -- some, so that handing one out changes nothing and a batch that ends early keeps it.
+use Rattle.std.specs.Prelude.{Option, None, Some}
 use mathlib.Core.Path.{◌≡◌, refl, sym, subst, ap, ◌∙◌}
 use mathlib.Core.Logic.{⊎_elim}
 use mathlib.Core.List.Memᴰ
@@ -12,16 +13,12 @@ use Rattle.components.specs.Chain.{position}
 use Rattle.model.specs.declared.ComponentId.{ComponentId}
 use Rattle.model.specs.declared.Component.{Component}
 use Rattle.model.specs.declared.FailurePolicy.TheVariants.{Cascading}
-use Rattle.model.specs.declared.OptionId.{OptionId}
-use Rattle.model.specs.declared.OptionId.TheVariants.{None, Some}
 use Rattle.model.specs.declared.Event.{Event}
 use Rattle.model.specs.declared.Event.TheVariants.{VerificationPassed}
 use Rattle.model.specs.declared.Effect.{Effect}
 use Rattle.model.specs.declared.Effect.TheVariants.{ReleaseReset, ReportIsolated}
 use Rattle.chain.specs.Links.{policy_at}
 use Rattle.pending.specs.Queue.{emits}
-use Rattle.pending.specs.declared.OptionEvent.{OptionEvent}
-use Rattle.pending.specs.declared.OptionEvent.TheVariants.{NoEvent, OneEvent}
 use Rattle.machine.specs.declared.ComponentStatus.{ComponentStatus}
 use Rattle.history.specs.History.{Item, Taken, HandedOut, settling, settled, Reported}
 use Rattle.history.specs.Demand.{Serves, DependsOver}
@@ -32,7 +29,7 @@ use Rattle.history.proofs.Parts.{Base}
 -- ---- What is asked of a log, item by item
 
 -- The component under check.
-abbrev pub under_check : List Item → OptionId
+abbrev pub under_check : List Item → Option ComponentId
 under_check [] = None
 under_check (Taken e ∷ l) = under_check l
 under_check (HandedOut x ∷ l) = checked x (under_check l)
@@ -50,7 +47,7 @@ handed_now (HandedOut x ∷ l) = suc (handed_now l)
 
 -- The effect x, given what stood before it.
 pub record Right (ch : List Component) (past : List Item) (x : Effect) : Type 0 where
-  pub release : (i : ComponentId) → x ≡ ReleaseReset i → (settling past ≡ OneEvent (VerificationPassed i)) × (under_check past ≡ Some i)
+  pub release : (i : ComponentId) → x ≡ ReleaseReset i → (settling past ≡ Some (VerificationPassed i)) × (under_check past ≡ Some i)
   pub isolation : (i j : ComponentId) → Serves i x → Reported past j → (j ≡ i → ⊥) × (policy_at ch (position ch j) ≡ Cascading → DependsOver ch i j → ⊥)
   pub small : suc (handed_now past) ≤ 2 * length ch + 1
   pub total : suc (handed past) ≤ 4 * settled past + 2 * length ch
@@ -63,9 +60,9 @@ Kept ch (HandedOut x ∷ l) = Right ch l x × Kept ch l
 -- ---- The effects still to be handed out
 
 -- A log after one more effect; what Emit queues is not handed out.
-abbrev pub told : OptionEvent → Effect → List Item → List Item
-told NoEvent x l = HandedOut x ∷ l
-told (OneEvent e) x l = l
+abbrev pub told : Option Event → Effect → List Item → List Item
+told None x l = HandedOut x ∷ l
+told (Some e) x l = l
 
 abbrev pub hand : Effect → List Item → List Item
 hand x l = told (emits x) x l
@@ -75,11 +72,11 @@ abbrev pub foretold : List Effect → List Item → List Item
 foretold [] l = l
 foretold (x ∷ xs) l = foretold xs (hand x l)
 
-told_p : (P : List Item → Type 0) (o : OptionEvent) (x : Effect) (l : List Item) → ((e : Event) → o ≡ OneEvent e → P l) → (o ≡ NoEvent → P (HandedOut x ∷ l)) → P (told o x l)
-told_p P NoEvent x l h k = k refl
-told_p P (OneEvent e) x l h k = h e refl
+told_p : (P : List Item → Type 0) (o : Option Event) (x : Effect) (l : List Item) → ((e : Event) → o ≡ Some e → P l) → (o ≡ None → P (HandedOut x ∷ l)) → P (told o x l)
+told_p P None x l h k = k refl
+told_p P (Some e) x l h k = h e refl
 
-hand_p : (P : List Item → Type 0) (x : Effect) (l : List Item) → ((e : Event) → emits x ≡ OneEvent e → P l) → P (HandedOut x ∷ l) → P (hand x l)
+hand_p : (P : List Item → Type 0) (x : Effect) (l : List Item) → ((e : Event) → emits x ≡ Some e → P l) → P (HandedOut x ∷ l) → P (hand x l)
 hand_p P x l h k = told_p P (emits x) x l h (λ q. k)
 
 -- ---- Who is reported isolated is Isolated
@@ -100,7 +97,7 @@ reports-taken ch st e l r j m =
     (λ (k : Reported l j). r j k)
     (Memᴰ.cases_cons m)
 
-reports-handed : (ch : List Component) (st : List ComponentStatus) (e : Event) (old : OptionId) (x : Effect) (l : List Item) → Fine ch st e old x → Reports ch st l → Reports ch st (HandedOut x ∷ l)
+reports-handed : (ch : List Component) (st : List ComponentStatus) (e : Event) (old : Option ComponentId) (x : Effect) (l : List Item) → Fine ch st e old x → Reports ch st l → Reports ch st (HandedOut x ∷ l)
 reports-handed ch st e old x l f r j m =
     ⊎_elim
     (λ (q : HandedOut (ReportIsolated j) ≡ HandedOut x). subst (Fine ch st e old) (sym (handed-same (ReportIsolated j) x q)) f)
@@ -117,7 +114,7 @@ pub record Through (ch : List Component) (st : List ComponentStatus) (es : List 
   pub check : under_check (foretold es l) ≡ last (under_check l) es
 
 module _ (ch : List Component) (st : List ComponentStatus) (b : Base ch st) (e : Event) where
-  right : (x : Effect) (l : List Item) → Fine ch st e (under_check l) x → settling l ≡ OneEvent e → Reports ch st l
+  right : (x : Effect) (l : List Item) → Fine ch st e (under_check l) x → settling l ≡ Some e → Reports ch st l
       → suc (handed_now l) ≤ 2 * length ch + 1 → suc (handed l) ≤ 4 * settled l + 2 * length ch → Right ch l x
   right x l f s r h t = record {
     release = λ i q. release i (subst (Fine ch st e (under_check l)) q f);
@@ -129,8 +126,8 @@ module _ (ch : List Component) (st : List ComponentStatus) (b : Base ch st) (e :
     total = t;
   }
     where
-      release : (i : ComponentId) → Fine ch st e (under_check l) (ReleaseReset i) → (settling l ≡ OneEvent (VerificationPassed i)) × (under_check l ≡ Some i)
-      release i g = (s ∙ ap OneEvent g.1, g.2)
+      release : (i : ComponentId) → Fine ch st e (under_check l) (ReleaseReset i) → (settling l ≡ Some (VerificationPassed i)) × (under_check l ≡ Some i)
+      release i g = (s ∙ ap Some g.1, g.2)
 
   -- Of a batch x ∷ es from the log l, with x done and m the log then.
   abbrev Next : Effect → List Effect → List Item → List Item → Type 0
@@ -144,7 +141,7 @@ module _ (ch : List Component) (st : List ComponentStatus) (b : Base ch st) (e :
   hands : (x : Effect) (es : List Effect) (l : List Item) → Through ch st es (HandedOut x ∷ l) → Next x es l (HandedOut x ∷ l)
   hands x es l a = (a.kept, a.reports, omega (arith, a.handed), a.settled, a.check)
 
-  pub through : (es : List Effect) (l : List Item) → Said ch st e (under_check l) es → settling l ≡ OneEvent e → Kept ch l → Reports ch st l
+  pub through : (es : List Effect) (l : List Item) → Said ch st e (under_check l) es → settling l ≡ Some e → Kept ch l → Reports ch st l
       → handed_now l + length es ≤ 2 * length ch + 1 → handed l + length es ≤ 4 * settled l + 2 * length ch → Through ch st es l
   through [] l w s k r h t = record { kept = k; reports = r; handed = omega arith; settled = refl; check = refl }
   through (x ∷ es) l w s k r h t =

@@ -1,4 +1,5 @@
 -- What holds between two events, what an outcome of one is to keep of it, and that the parts of the rules keep it.
+use Rattle.std.specs.Prelude.{Option, Some}
 use mathlib.Core.Path.{◌≡◌, refl, sym, subst, ap, ◌∙◌}
 use mathlib.Core.Logic.{⊎_elim}
 use mathlib.Core.List.Memᴰ
@@ -12,8 +13,6 @@ use Rattle.components.specs.Chain.{position, id_at, Sound}
 use Rattle.model.specs.declared.ComponentId.{ComponentId}
 use Rattle.model.specs.declared.Component.{Component}
 use Rattle.model.specs.declared.FailurePolicy.TheVariants.{Isolable, Cascading}
-use Rattle.model.specs.declared.OptionId.{OptionId}
-use Rattle.model.specs.declared.OptionId.TheVariants.{Some}
 use Rattle.model.specs.declared.State.{State}
 use Rattle.model.specs.declared.State.TheVariants.{PowerOnReset, PreSupervision, AwaitingReady, Ready, Updating, Recovering, Locked}
 use Rattle.model.specs.declared.Event.{Event}
@@ -61,12 +60,12 @@ pub record Inv (ch : List Component) (c : Core) : Type 0 where
   pub free : walking c.state ≡ true → iso_at c.statuses c.cursor ≡ false
 
 -- In a walk the cursor's component is the one under check.
-abbrev pub Linked : List Component → Core → OptionId → Type 0
+abbrev pub Linked : List Component → Core → Option ComponentId → Type 0
 Linked ch c old = walking c.state ≡ true → c.cursor < length ch → old ≡ Some (id_at ch c.cursor)
 
 -- The outcome o of the event e, from the statuses st and with old under check: its effects cost n, but for what is drawn
 -- from the store.
-pub record Ok (ch : List Component) (st : List ComponentStatus) (e : Event) (old : OptionId) (n : ℕ) (o : Out) : Type 0 where
+pub record Ok (ch : List Component) (st : List ComponentStatus) (e : Event) (old : Option ComponentId) (n : ℕ) (o : Out) : Type 0 where
   pub inv : Inv ch o.core
   pub mono : Mono st o.core.statuses
   pub said : Said ch o.core.statuses e old o.said
@@ -145,7 +144,7 @@ tame-lift st p f = tame-touch lift 1 st p refl (λ a u. both (iso_at st p) u f) 
 
 module _ (n : ℕ) (ch : List Component) (s : Sound n ch) (e : Event) where
   -- Tame statuses, in a state that has its invariant.
-  pub tame-ok : (old : OptionId) (k : ℕ) (st : List ComponentStatus) (c : Core) (es : List Effect) (b : ℕ) → Base ch st → Tame k st c.statuses
+  pub tame-ok : (old : Option ComponentId) (k : ℕ) (st : List ComponentStatus) (c : Core) (es : List Effect) (b : ℕ) → Base ch st → Tame k st c.statuses
       → (walking c.state ≡ true → iso_at c.statuses c.cursor ≡ false) → Said ch c.statuses e old es → Linked ch c (last old es)
       → length es + k ≤ b → Ok ch st e old b (out c es)
   tame-ok old k st c es b h t f d l z = record {
@@ -157,24 +156,24 @@ module _ (n : ℕ) (ch : List Component) (s : Sound n ch) (e : Event) where
   }
 
   -- A state that releases nothing.
-  pub rest_ok : (old : OptionId) (st : List ComponentStatus) (c : Core) (es : List Effect) (b : ℕ) → Base ch st → Tame 0 st c.statuses
+  pub rest_ok : (old : Option ComponentId) (st : List ComponentStatus) (c : Core) (es : List Effect) (b : ℕ) → Base ch st → Tame 0 st c.statuses
       → walking c.state ≡ false → Said ch c.statuses e old es → length es ≤ b → Ok ch st e old b (out c es)
   rest_ok old st c es b h t w d z = tame-ok old 0 st c es b h t (λ u. both (walking c.state) u w) d (λ u v. both (walking c.state) u w) (omega arith)
 
-  pub locked-ok : (old : OptionId) (c : Core) → Base ch c.statuses → Ok ch c.statuses e old 4 (enter_locked c)
+  pub locked-ok : (old : Option ComponentId) (c : Core) → Base ch c.statuses → Ok ch c.statuses e old 4 (enter_locked c)
   locked-ok old c h = rest_ok old c.statuses (in_state Locked c) _ 4 h (tame-refl c.statuses) refl (tt, tt) (omega arith)
 
-  pub ready-ok : (old : OptionId) (c : Core) → Base ch c.statuses → Ok ch c.statuses e old 0 (enter_ready c)
+  pub ready-ok : (old : Option ComponentId) (c : Core) → Base ch c.statuses → Ok ch c.statuses e old 0 (enter_ready c)
   ready-ok old c h = rest_ok old c.statuses (enter_ready c).core [] 0 h (tame-retries c.statuses) refl tt (omega arith)
 
-  pub recovering-ok : (old : OptionId) (i : ComponentId) (c : Core) → Base ch c.statuses → iso_at c.statuses (position ch i) ≡ false
+  pub recovering-ok : (old : Option ComponentId) (i : ComponentId) (c : Core) → Base ch c.statuses → iso_at c.statuses (position ch i) ≡ false
       → Ok ch c.statuses e old 1 (enter_recovering ch i c)
   recovering-ok old i c h f =
       rest_ok old c.statuses (enter_recovering ch i c).core _ 1 h (tame-quiet c.statuses (position ch i)) refl
       ((tame-quiet c.statuses (position ch i)).same (position ch i) ∙ f, tt) (omega arith)
 
   -- A new walk pays for what it quiesces from those that were released.
-  pub walk-ok : (old : OptionId) (c : Core) → Base ch c.statuses → Ok ch c.statuses e old 2 (enter_walk ch c)
+  pub walk-ok : (old : Option ComponentId) (c : Core) → Base ch c.statuses → Ok ch c.statuses e old 2 (enter_walk ch c)
   walk-ok old c h =
       let st : List ComponentStatus = c.statuses in
       let su : List ComponentStatus = map quiesced st in
@@ -190,7 +189,7 @@ module _ (n : ℕ) (ch : List Component) (s : Sound n ch) (e : Event) where
         cost = omega (arith, length-append (quiet_says ch st) (verify_says ch k), quiet-cost ch st, verify-two ch k, w);
       }
 
-  pub onward-ok : (old : OptionId) (p : ℕ) (to : State) (c : Core) → Base ch c.statuses → Ok ch c.statuses e old 2 (onward ch p to c)
+  pub onward-ok : (old : Option ComponentId) (p : ℕ) (to : State) (c : Core) → Base ch c.statuses → Ok ch c.statuses e old 2 (onward ch p to c)
   onward-ok old p to c h =
       let st : List ComponentStatus = c.statuses in
       let k : ℕ = seek st p in
@@ -206,21 +205,21 @@ module _ (n : ℕ) (ch : List Component) (s : Sound n ch) (e : Event) where
       (λ t. (tame-retries c.statuses).same q)
 
   -- What comes before an outcome.
-  pub after-ok : (old new : OptionId) (st su : List ComponentStatus) (es : List Effect) (o : Out) (d b m : ℕ) → last old es ≡ new → Mono st su → Said ch o.core.statuses e old es
+  pub after-ok : (old new : Option ComponentId) (st su : List ComponentStatus) (es : List Effect) (o : Out) (d b m : ℕ) → last old es ≡ new → Mono st su → Said ch o.core.statuses e old es
       → length es + store su ≤ d + store st → d + b ≤ m → Ok ch su e new b o → Ok ch st e old m (after es o)
   after-ok old new st su es o d b m q j w h g k = record {
     inv = k.inv;
     mono = λ r u. k.mono r (j r u);
-    said = said-append ch o.core.statuses e old es o.said w (subst (λ (x : OptionId). Said ch o.core.statuses e x o.said) (sym q) k.said);
-    link = λ u v. last-append old es o.said ∙ ap (λ (x : OptionId). last x o.said) q ∙ k.link u v;
+    said = said-append ch o.core.statuses e old es o.said w (subst (λ (x : Option ComponentId). Said ch o.core.statuses e x o.said) (sym q) k.said);
+    link = λ u v. last-append old es o.said ∙ ap (λ (x : Option ComponentId). last x o.said) q ∙ k.link u v;
     cost = omega (arith, length-append es o.said, k.cost);
   }
 
-  pub weaken : (old : OptionId) (st : List ComponentStatus) (o : Out) (a b : ℕ) → a ≤ b → Ok ch st e old a o → Ok ch st e old b o
+  pub weaken : (old : Option ComponentId) (st : List ComponentStatus) (o : Out) (a b : ℕ) → a ≤ b → Ok ch st e old a o → Ok ch st e old b o
   weaken old st o a b h k = record { inv = k.inv; mono = k.mono; said = k.said; link = k.link; cost = omega (arith, k.cost) }
 
   -- Gates, and what follows them: the gates are paid for by the weight.
-  pub gates-ok : (old : OptionId) (ps : List ℕ) (k : Core → Out) (c : Core) (b : ℕ) → Base ch c.statuses → Within (length ch) ps
+  pub gates-ok : (old : Option ComponentId) (ps : List ℕ) (k : Core → Out) (c : Core) (b : ℕ) → Base ch c.statuses → Within (length ch) ps
       → Ok ch (gates c.statuses ps) e old b (k (statuses_are (gates c.statuses ps) c)) → Ok ch c.statuses e old b (gate_then ch ps k c)
   gates-ok old ps k c b h w o =
       after-ok old old c.statuses (gates c.statuses ps) (gates_say ch c.statuses ps) (k (statuses_are (gates c.statuses ps) c)) 0 b b

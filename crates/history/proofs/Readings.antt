@@ -1,4 +1,5 @@
 -- A log that is kept item by item has the parts of demand 3.
+use Rattle.std.specs.Prelude.{Some}
 use mathlib.Core.Path.{◌≡◌, refl, subst, ap, ◌∙◌}
 use mathlib.Core.Logic.{⊎_elim}
 use mathlib.Core.List.Memᴰ
@@ -10,7 +11,6 @@ use lib.ListN.{length}
 use borrow.Author.Tests.{eqb-true, leb-true}
 use Rattle.model.specs.declared.ComponentId.{ComponentId}
 use Rattle.model.specs.declared.Component.{Component}
-use Rattle.model.specs.declared.OptionId.TheVariants.{Some}
 use Rattle.model.specs.declared.Effect.{Effect}
 use Rattle.model.specs.declared.Effect.TheVariants.{ReadFirmware, VerifyFirmware, ReleaseReset, AssertReset, SignAttestation, AuthenticateUpdate, StageUpdate, ActivateUpdate, DiscardStaged, CommitSvnFloor, RecoverComponent, ReportIsolated, ReportRecoveryFailed, ReportBootFailed, ReportUpdateDeferred, ReportUpdateAborted, LatchLockdown, Emit}
 use Rattle.model.proofs.Pick.{pick_p}

@@ -1,4 +1,5 @@
 -- Every rule keeps what an outcome is to keep, at a cost of 4 effects at most: the theorem `step_ok`.
+use Rattle.std.specs.Prelude.{Option, None, Some}
 use mathlib.Core.Path.{◌≡◌, refl, sym, subst, ap, ◌∙◌}
 use mathlib.Core.List.{List, [], ◌∷◌}
 use mathlib.Core.Bool.{Bool, true, false}
@@ -13,8 +14,6 @@ use Rattle.model.specs.declared.ComponentId.{ComponentId}
 use Rattle.model.specs.declared.Component.{Component}
 use Rattle.model.specs.declared.FailurePolicy.{FailurePolicy}
 use Rattle.model.specs.declared.FailurePolicy.TheVariants.{Required, Isolable, Cascading}
-use Rattle.model.specs.declared.OptionId.{OptionId}
-use Rattle.model.specs.declared.OptionId.TheVariants.{None, Some}
 use Rattle.model.specs.declared.PowerOnResult.{PowerOnResult}
 use Rattle.model.specs.declared.PowerOnResult.TheVariants.{Provisioned, Unprovisioned, SelfVerificationFailed}
 use Rattle.model.specs.declared.BootFailureKind.{BootFailureKind}
@@ -52,8 +51,8 @@ told_policy P Required h i j = h refl
 told_policy P Isolable h i j = i refl
 told_policy P Cascading h i j = j refl
 
-pub told_state : {A : Type 0} (P : A → Type 0) (s : State) {a b d e g : A} {c : OptionId → A} {f : ComponentId → A}
-    → (s ≡ PowerOnReset → P a) → (s ≡ PreSupervision → P b) → ((o : OptionId) → s ≡ AwaitingReady o → P (c o)) → (s ≡ Ready → P d)
+pub told_state : {A : Type 0} (P : A → Type 0) (s : State) {a b d e g : A} {c : Option ComponentId → A} {f : ComponentId → A}
+    → (s ≡ PowerOnReset → P a) → (s ≡ PreSupervision → P b) → ((o : Option ComponentId) → s ≡ AwaitingReady o → P (c o)) → (s ≡ Ready → P d)
     → (s ≡ Updating → P e) → ((i : ComponentId) → s ≡ Recovering i → P (f i)) → (s ≡ Locked → P g) → P (by_state s a b c d e f g)
 told_state P PowerOnReset t u v w x y z = t refl
 told_state P PreSupervision t u v w x y z = u refl
@@ -67,7 +66,7 @@ told_state P Locked t u v w x y z = z refl
 awaiting-free : (st : List ComponentStatus) (p : ℕ) → AllOff st → (status_at st p).awaiting_boot ≡ true → iso_at st p ≡ false
 awaiting-free st p a h = by-test (iso_at st p) (λ t. both (status_at st p).awaiting_boot h (a p t).0) (λ t. t)
 
-module _ (n : ℕ) (ch : List Component) (s : Sound n ch) (e : Event) (old : OptionId) where
+module _ (n : ℕ) (ch : List Component) (s : Sound n ch) (e : Event) (old : Option ComponentId) where
   from-tame : (st su : List ComponentStatus) (o : Out) (b : ℕ) → Tame 0 st su → Ok ch su e old b o → Ok ch st e old b o
   from-tame st su o b t k = after-ok n ch s e old old st su [] o 0 b b refl (λ q u. t.same q ∙ u) tt (omega (arith, t.cost)) (omega arith) k
 
@@ -180,7 +179,7 @@ module _ (n : ℕ) (ch : List Component) (s : Sound n ch) (e : Event) (old : Opt
       after-ok n ch s e old old c.statuses c.statuses (x ∷ []) (enter_ready (window_is w c)) 1 0 4 r (λ k u. u)
       (f (enter_ready (window_is w c)).core.statuses) (omega arith) (omega arith) (ready-ok n ch s e old (window_is w c) v.base)
 
-module _ (n : ℕ) (ch : List Component) (s : Sound n ch) (old : OptionId) (c : Core) (v : Inv ch c) (l : Linked ch c old) where
+module _ (n : ℕ) (ch : List Component) (s : Sound n ch) (old : Option ComponentId) (c : Core) (v : Inv ch c) (l : Linked ch c old) where
   abbrev Good : Event → Out → Type 0
   Good e = Ok ch c.statuses e old 4
 
@@ -235,7 +234,7 @@ module _ (n : ℕ) (ch : List Component) (s : Sound n ch) (old : OptionId) (c : 
           (corrupt-ok n ch s e old k [] i c v.base h kOk (λ su. tt) refl (omega arith))))
           (λ t. stays)
 
-    readies : (i : ComponentId) (o : OptionId) → c.state ≡ AwaitingReady o → Good e (component_ready ch i o c)
+    readies : (i : ComponentId) (o : Option ComponentId) → c.state ≡ AwaitingReady o → Good e (component_ready ch i o c)
     readies i None q = boots i
     readies i (Some j) q =
         pick_p (Good e) (same_id j i)

@@ -18,12 +18,12 @@ use Rattle.model.specs.declared.Effect.TheVariants.{LatchLockdown}
 use Rattle.isolated.specs.Flags.{digits, flags_of, flags}
 use Rattle.store.specs.declared.Status.{Status}
 use Rattle.store.specs.declared.Sink.{Sink}
-use Rattle.store.specs.Sink.{effect_of, slot_of, held}
+use Rattle.store.specs.Sink.{held}
 use Rattle.chain.specs.declared.Chain.{Chain}
 use Rattle.chain.specs.Links.{parent}
 use Rattle.chain.specs.Tables.{Charted}
 use Rattle.pending.specs.declared.Pending.{Pending}
-use Rattle.pending.specs.Queue.{event_of, entry_of, events}
+use Rattle.pending.specs.Queue.{events}
 use Rattle.machine.specs.declared.ComponentStatus.{ComponentStatus}
 use Rattle.machine.specs.declared.ComponentLifecycle.{ComponentLifecycle}
 use Rattle.machine.specs.declared.ComponentLifecycle.TheVariants.{Nominal, Isolated}
@@ -82,23 +82,19 @@ padded n d l = l ++ replicate (n - length l) d
 padded-length {ℓ} : {A : Type ℓ} (n : ℕ) (d : A) (l : List A) → length l ≤ n → length (padded n d l) ≡ n
 padded-length n d l h = omega (arith, length-append l (replicate (n - length l) d), length-replicate (n - length l) d)
 
-there_and_back {ℓ ℓ'} : {A : Type ℓ} {B : Type ℓ'} (f : A → B) (g : B → A) → ((a : A) → g (f a) ≡ a) → (l : List A) → map g (map f l) ≡ l
-there_and_back f g h [] = refl
-there_and_back f g h (x ∷ l) = ap₂ (λ (y : _) (t : List _). y ∷ t) (h x) (there_and_back f g h l)
-
 unfoldable pub sink_of : List Effect → Sink
-sink_of es = record { effects = padded 512 (slot_of LatchLockdown) (map slot_of es); len = length es }
+sink_of es = record { effects = padded 512 LatchLockdown es; len = length es }
 
 sink-held : (es : List Effect) → held (sink_of es) ≡ es
 unfolding held sink_of
-sink-held es = ap (map effect_of) (take_at (map slot_of es) _ (length es) (length-map es slot_of)) ∙ there_and_back slot_of effect_of (λ x. refl) es
+sink-held es = take_at es _ (length es) refl
 
 unfoldable pub pending_of : List Event → Pending
-pending_of q = record { entries = padded 8 (entry_of EffectFailed) (map entry_of q); len = length q }
+pending_of q = record { entries = padded 8 EffectFailed q; len = length q }
 
 pending-events : (q : List Event) → events (pending_of q) ≡ q
 unfolding events pending_of
-pending-events q = ap (map event_of) (take_at (map entry_of q) _ (length q) (length-map q entry_of)) ∙ there_and_back entry_of event_of (λ x. refl) q
+pending-events q = take_at q _ (length q) refl
 
 -- ---- Statuses: the set, and what is stored
 
@@ -243,6 +239,6 @@ module _ (l : ComponentList) (s : Sound l.len (entries_of l)) (max : ℕ) (m : M
     parents = rows-length 255 (parent (entries_of l));
     statuses = padded-length 255 _ (map stored_of m.core.statuses) (omega (arith, length-map m.core.statuses stored_of, f.sized, most));
     words = words-length 4 (bits m.core.statuses);
-    effects = padded-length 512 (slot_of LatchLockdown) (map slot_of m.left) (omega (arith, length-map m.left slot_of, f.room));
-    entries = padded-length 8 (entry_of EffectFailed) (map entry_of m.queue) (omega (arith, length-map m.queue entry_of, f.few));
+    effects = padded-length 512 LatchLockdown m.left (omega (arith, f.room));
+    entries = padded-length 8 EffectFailed m.queue (omega (arith, f.few));
   }

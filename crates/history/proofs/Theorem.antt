@@ -1,12 +1,12 @@
 -- Demand 3. The code is where the definitions say, and so are its answers; what every call keeps over the definitions then
 -- holds of the code's own log.
+use Rattle.std.specs.Prelude.{Ok}
 use mathlib.Core.Path.{◌≡◌, refl, sym, subst, ap, ◌∙◌}
 use mathlib.Core.List.{List, [], ◌∷◌}
 use Prim.Native.Nat.{ℕ}
-use Rattle.components.specs.Chain.{entries_of, verdict_of, Sound}
+use Rattle.components.specs.Chain.{entries_of, verdict_of, Sound, no_refusal}
 use Rattle.model.specs.declared.Component.{Component}
 use Rattle.components.specs.declared.ComponentList.{ComponentList}
-use Rattle.components.specs.declared.Verdict.TheVariants.{Accepted}
 use Rattle.components.proofs.Accepted.{accepted}
 use Rattle.settling.specs.declared.Machine.{Machine}
 use Rattle.settling.specs.Settle.{Model}
@@ -14,7 +14,7 @@ use Rattle.settling.specs.View.{view, chain_of, Valid}
 use Rattle.chain.specs.Tables.{entries}
 use Rattle.chain.specs.declared.Chain.{Chain}
 use Rattle.sm.specs.Calls.{Expected}
-use Rattle.sm.specs.Gives.{Fresh}
+use Rattle.sm.specs.Gives.{Fresh, number_of}
 use Rattle.history.specs.History.{Call, expected, machine_after, expected_after, Answered, answers_to, log_of}
 use Rattle.history.specs.Demand.{Follows, made, called, Demanded}
 use Rattle.history.proofs.Parts.{Inv}
@@ -43,7 +43,7 @@ module _ (n : ℕ) (ch : List Component) (s : Sound n ch) (max : ℕ) where
 
 -- The code's machine is the definitions', for the same chain and max_retry, and its answers are theirs.
 pub record Agrees (l : ComponentList) (max : ℕ) (ks : List Call) (rs : List Answered) (m : Machine) : Type 0 where
-  pub verdict : verdict_of l.len (entries_of l) ≡ Accepted
+  pub verdict : verdict_of l.len (entries_of l) ≡ no_refusal
   pub chain : chain_of m ≡ entries_of l
   pub max_retry : m.max_retry ≡ max
   pub machine : view m ≡ machine_after (entries_of l) max ks
@@ -52,9 +52,9 @@ pub record Agrees (l : ComponentList) (max : ℕ) (ks : List Call) (rs : List An
 
 pub agrees : (l : ComponentList) (max : ℕ) {ks : List Call} {rs : List Answered} {m : Machine} → Follows l max ks rs m → Agrees l max ks rs m
 unfolding machine_after answers_to
-agrees l max (made r v g) =
-    let f : Fresh l max r.machine = g.accepted v in
-    record { verdict = v; chain = f.chain; max_retry = f.max_retry; machine = f.machine; answers = refl; valid = f.valid }
+agrees l max (made m g) =
+    let f : Fresh l max m = g.1 in
+    record { verdict = g.0; chain = f.chain; max_retry = f.max_retry; machine = f.machine; answers = refl; valid = f.valid }
 agrees l max (called {ks = ks} {rs = rs} {m = m} k r f valid g) =
     let a : Agrees l max ks rs m = agrees l max f in
     let ch : List Component = entries_of l in
@@ -62,7 +62,7 @@ agrees l max (called {ks = ks} {rs = rs} {m = m} k r f valid g) =
     ap (λ (c : List Component). expected c m.max_retry (view m) k) a.chain
     ∙ ap (λ (b : ℕ). expected ch b (view m) k) a.max_retry
     ∙ ap (λ (w : Model). expected ch max w k) a.machine in
-    let number : r.number ≡ (expected_after ch max ks k).number = g.number ∙ ap (λ (y : Expected). y.number) x in
+    let number : number_of r.answer ≡ (expected_after ch max ks k).number = g.number ∙ ap (λ (y : Expected). y.number) x in
     let effect : r.effect ≡ (expected_after ch max ks k).effect = g.effect ∙ ap (λ (y : Expected). y.effect) x in
     let rest : rs ≡ answers_to ch max ks = a.answers in
     record {

@@ -1,18 +1,18 @@
 -- The bound of 2 N + 1 effects is reached: the last of 01's ten rows, from power-on. Component 1 is Required and released,
 -- component 2 is Cascading and exhausted: its gate gives two effects, quiescing component 1 one, and the new walk two.
+use Rattle.std.specs.Prelude.{Ok}
 use mathlib.Core.Path.{◌≡◌, refl, sym, subst, ap, ◌∙◌}
 use mathlib.Core.List.{List, [], ◌∷◌}
 use Prim.Native.Nat.{◌+◌, ◌*◌}
 use lib.Dec.{eqb}
 use lib.ListN.{length}
 use Rattle.model.specs.Vocabulary.{id_of, plain_attrs}
-use Rattle.components.specs.Chain.{entries_of, no_entries, pushed, position, first_from, verdict_of}
+use Rattle.components.specs.Chain.{entries_of, no_entries, pushed, position, first_from, verdict_of, no_refusal}
 use Rattle.model.specs.declared.Component.{Component}
 use Rattle.components.specs.declared.ComponentList.{ComponentList}
 use Rattle.model.specs.declared.ComponentKind.TheVariants.{Active, Passive}
 use Rattle.model.specs.declared.FailurePolicy.TheVariants.{Required, Cascading}
 use Rattle.model.specs.declared.PowerOnResult.TheVariants.{Provisioned}
-use Rattle.components.specs.declared.Verdict.TheVariants.{Accepted}
 use Rattle.model.specs.declared.Event.TheVariants.{PowerGood, VerificationPassed, VerificationFailed, RecoveryUnavailable}
 use Rattle.cascade.specs.Cascade.{below, children_in, children_of, spread, cascade}
 use Rattle.holds.specs.Holds.{gates, gates_say}
@@ -67,7 +67,7 @@ listed = pushed (pushed no_entries one) other
 pub listed-two : entries_of listed ≡ two
 listed-two = refl
 
-listed-accepted : verdict_of listed.len (entries_of listed) ≡ Accepted
+listed-accepted : verdict_of listed.len (entries_of listed) ≡ no_refusal
 unfolding first_from position
 listed-accepted = refl
 

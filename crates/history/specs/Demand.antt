@@ -1,35 +1,31 @@
 -- Demand 3: one statement about a whole history of the code's own calls.
-use Rattle.std.specs.Prelude.{◌≡◌, List, [], ◌∷◌, ◌++◌, ℕ, ◌+◌, ◌*◌, ◌≤◌, ◌<◌, eqb, leb, length}
-use Rattle.components.specs.Chain.{entries_of, verdict_of, position, id_at, depends_at}
+use Rattle.std.specs.Prelude.{◌≡◌, List, [], ◌∷◌, ◌++◌, ℕ, ◌+◌, ◌*◌, ◌≤◌, ◌<◌, eqb, leb, length, Some, Ok}
+use Rattle.components.specs.Chain.{entries_of, verdict_of, position, id_at, depends_at, no_refusal}
 use Rattle.model.specs.declared.ComponentId.{ComponentId}
 use Rattle.model.specs.declared.Component.{Component}
 use Rattle.components.specs.declared.ComponentList.{ComponentList}
 use Rattle.model.specs.declared.FailurePolicy.TheVariants.{Cascading}
-use Rattle.model.specs.declared.OptionId.TheVariants.{Some}
-use Rattle.components.specs.declared.Verdict.TheVariants.{Accepted}
 use Rattle.model.specs.declared.Event.TheVariants.{VerificationPassed}
 use Rattle.model.specs.declared.Effect.{Effect}
 use Rattle.model.specs.declared.Effect.TheVariants.{VerifyFirmware, ReleaseReset, RecoverComponent}
 use Rattle.chain.specs.Links.{policy_at}
-use Rattle.pending.specs.declared.OptionEvent.TheVariants.{OneEvent}
 use Rattle.settling.specs.declared.Machine.{Machine}
 use Rattle.settling.specs.View.{view, chain_of, Valid}
-use Rattle.sm.specs.declared.Made.{Made}
 use Rattle.sm.specs.declared.Called.{Called}
-use Rattle.sm.specs.Gives.{NewGives, CallGives}
+use Rattle.sm.specs.Gives.{NewGives, number_of, CallGives}
 use Rattle.history.specs.History.{Call, expected, Answered, answers_to, Item, HandedOut, log_of, settling, settled, effects_of, Reported, LatestVerified}
 
 -- ---- The code's own calls
 
 -- What the code returned, but for the machine.
 abbrev pub answered : Called → Answered
-answered r = record { number = r.number; effect = r.effect }
+answered r = record { number = number_of r.answer; effect = r.effect }
 
 -- A history: from the machine that new gives for an accepted list, each call takes the machine that the one before
 -- returned, after a refusal too. Of the code it cites what the contracts of new, begin and reply ensure, and nothing else;
 -- `Valid` is the calls' one premise, and each call gives it to the next.
 pub data Follows (l : ComponentList) (max : ℕ) : List Call → List Answered → Machine → Type 0 where
-  made : (r : Made) → verdict_of l.len (entries_of l) ≡ Accepted → NewGives l max r → Follows l max [] [] r.machine
+  made : (m : Machine) → NewGives l max (Ok m) → Follows l max [] [] m
   called : {ks : List Call} {rs : List Answered} {m : Machine} (k : Call) (r : Called) → Follows l max ks rs m → Valid m
       → CallGives m (expected (chain_of m) m.max_retry (view m) k) r → Follows l max (k ∷ ks) (answered r ∷ rs) r.machine
 
@@ -61,7 +57,7 @@ Answers ch max ks rs = rs ≡ answers_to ch max ks
 -- VerifyFirmware before it named that component, and no ReleaseReset stood between the two.
 abbrev pub Release : List Item → Type 0
 Release log = (later past : List Item) (i : ComponentId) → log ≡ later ++ (HandedOut (ReleaseReset i) ∷ past)
-    → (settling past ≡ OneEvent (VerificationPassed i)) × LatestVerified past i
+    → (settling past ≡ Some (VerificationPassed i)) × LatestVerified past i
 
 -- No VerifyFirmware, ReleaseReset or RecoverComponent named a component once it, or a Cascading one it depends on over
 -- any links, was reported isolated.
@@ -98,4 +94,4 @@ pub record History (l : ComponentList) (max : ℕ) (ks : List Call) : Type 0 whe
   pub follows : Follows l max ks answers machine
 
 abbrev pub NotEmpty : Type 0
-NotEmpty = (l : ComponentList) (max : ℕ) (ks : List Call) → verdict_of l.len (entries_of l) ≡ Accepted → History l max ks
+NotEmpty = (l : ComponentList) (max : ℕ) (ks : List Call) → verdict_of l.len (entries_of l) ≡ no_refusal → History l max ks

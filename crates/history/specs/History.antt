@@ -1,6 +1,6 @@
 -- Section 4: a history, what document 01 gives for it, and its log: which events were settled and which effects were
 -- handed out. Lists of calls, of answers and of what happened all have the newest first.
-use Rattle.std.specs.Prelude.{◌≡◌, Bool, ℕ, suc, eqb}
+use Rattle.std.specs.Prelude.{◌≡◌, Bool, ℕ, suc, eqb, Option, None, Some}
 use mathlib.Core.List.{List, [], ◌∷◌, ◌++◌, map, Memᴰ}
 use Rattle.model.specs.Vocabulary.{pick}
 use Rattle.model.specs.declared.ComponentId.{ComponentId}
@@ -8,10 +8,6 @@ use Rattle.model.specs.declared.Component.{Component}
 use Rattle.model.specs.declared.Event.{Event}
 use Rattle.model.specs.declared.Effect.{Effect}
 use Rattle.model.specs.declared.Effect.TheVariants.{VerifyFirmware, ReleaseReset, ReportIsolated}
-use Rattle.pending.specs.declared.OptionEvent.{OptionEvent}
-use Rattle.pending.specs.declared.OptionEvent.TheVariants.{NoEvent, OneEvent}
-use Rattle.settling.specs.declared.Waiting.{Waiting}
-use Rattle.settling.specs.declared.Waiting.TheVariants.{Nothing, Handed}
 use Rattle.settling.specs.Settle.{Model}
 use Rattle.settling.specs.declared.Reply.{Reply}
 use Rattle.sm.specs.Calls.{Expected, begin_of, reply_of, start_of}
@@ -40,7 +36,7 @@ expected_after ch max ks k = expected ch max (machine_after ch max ks) k
 -- What a call answers: a number, and the effect that waits or none.
 pub record Answered : Type 0 where
   pub number : ℕ
-  pub effect : Waiting
+  pub effect : Option Effect
 
 -- The answers that document 01 gives to a list of calls.
 unfoldable pub answers_to : List Component → ℕ → List Call → List Answered
@@ -54,9 +50,9 @@ pub data Item : Type 0 where
   Taken : Event → Item
   HandedOut : Effect → Item
 
-abbrev pub given : Waiting → List Item
-given Nothing = []
-given (Handed x) = HandedOut x ∷ []
+abbrev pub given : Option Effect → List Item
+given None = []
+given (Some x) = HandedOut x ∷ []
 
 -- An effect is handed out by the call that answers 0 and gives it.
 abbrev pub handed_by : Answered → List Item
@@ -72,9 +68,9 @@ log_of ch max (k ∷ ks) (r ∷ rs) = (handed_by r ++ map Taken (expected_after 
 -- ---- Readings of a log
 
 -- The event being settled: the last one taken.
-abbrev pub settling : List Item → OptionEvent
-settling [] = NoEvent
-settling (Taken e ∷ l) = OneEvent e
+abbrev pub settling : List Item → Option Event
+settling [] = None
+settling (Taken e ∷ l) = Some e
 settling (HandedOut x ∷ l) = settling l
 
 -- How many events have been settled. Counted so, the first one taken has number 1.

@@ -16,55 +16,43 @@ use store::Status;
 
 // The component at p is isolated: it is in the set, its flags are off, and its retry count is kept. The length of the
 // chain, n, is there for the contract alone.
-fn hold(w: Work, n: usize, p: usize) -> Work
+fn hold(mut w: Work, n: usize, p: usize) -> Work
     requires { (n ≤ 255) × (p < n) × (Fit n w.rot) }
     ensures { Does n w (holding p) result }
 {
-    let mut rot = w.rot;
-    let isolated = rot.isolated;
-    let more = isolated.insert(p);
-    let old = rot.statuses[p];
-    rot.statuses[p] = Status {
-        retry: old.retry,
+    w.rot.isolated = w.rot.isolated.insert(p);
+    w.rot.statuses[p] = Status {
         awaiting_boot: false,
         released: false,
+        ..w.rot.statuses[p]
     };
-    rot.isolated = more;
-    machine::with_rot(w, rot)
+    w
 }
 
 // The gate at p: the component is held in reset, and reported. One that is isolated already was reported then, so a
-// cascade that comes to it again says nothing. Both effects go into the sink before it is put back: the machine is copied
-// once, and not for each.
+// cascade that comes to it again says nothing.
 pub fn gate_one(chain: Chain, w: Work, p: usize) -> Work
     requires { (p < size chain) × (Fit (size chain) w.rot) }
     ensures { Does (size chain) w (gating (entries chain) p) result }
 {
     let n = chain.count();
-    let rot = w.rot;
-    if machine::is_gated(rot, n, p) {
+    if machine::is_gated(w.rot, n, p) {
         return w;
     }
     let id = chain.id_at(p);
     let mut held = hold(w, n, p);
-    let sink = held.sink;
-    let reset = store::emitted(sink, Effect::AssertReset(id));
-    held.sink = store::emitted(reset, Effect::ReportIsolated(id));
+    held.sink.emit(Effect::AssertReset(id));
+    held.sink.emit(Effect::ReportIsolated(id));
     held
 }
 
 // The gate at each position of an order in turn.
-pub fn gate_all(chain: Chain, w: Work, order: Order) -> Work
+pub fn gate_all(chain: Chain, mut w: Work, order: Order) -> Work
     requires { (Fit (size chain) w.rot) × ((k : ℕ) → k < order.count → get_or order.at k 0 < size chain) × (order.count ≤ 255) }
     ensures { Does (size chain) w (gating_all (entries chain) (listed order)) result }
 {
-    let count = order.count;
-    let mut v = w;
-    let mut k = 0;
-    while k < count {
-        let p = order.at[k] as usize;
-        v = gate_one(chain, v, p);
-        k += 1;
+    for p in &order.at[..order.count] {
+        w = gate_one(chain, w, *p as usize);
     }
-    v
+    w
 }

@@ -20,7 +20,7 @@ apart e = let z : ◌≡◌ {A = ℕ} 0 1 = cc in absurd (omega arith)
 
 -- ---- the length
 
--- 256 flags, for four words. In a proof of code that holds an `Isolated` s, `search needs` shows `length s.words ≡ 4`: s owns an array of four
+-- 256 flags, for four words. In a proof of code that holds an `Isolated` s, `search rules` shows `length s.words ≡ 4`: s owns an array of four
 pub length-flags : (s : Isolated) → length s.words ≡ 4 → length (flags s) ≡ 256
 unfolding flags
 length-flags s four = length-words 64 s.words ∙ ap (λ (n : ℕ). n * 64) four

@@ -13,6 +13,8 @@ use lib.Pow.{shr-shr, shr_le, shl_exact, pow_mono, pow_pos}
 use lib.Bits.{bit_or, or_shr, or_mod, or_zero_r}
 use lib.Count.{ones, ones_step, count_trailing_zeros, under}
 use borrow.Author.Tests.{eq-eqb}
+use Rattle.std.specs.List.{sum_by}
+use Rattle.std.proofs.lemmas.List.Sums.{sum_by-cons}
 use Rattle.isolated.specs.Flags.{digits, flags_of, trues}
 
 -- ---- one word
@@ -124,26 +126,12 @@ trues-digits (suc k) w h =
     ∙ ap (λ (x : ℕ). w % 2 + x) (trues-digits k (w / 2) (let g = rw (pow-suc 2 k) at h in omega arith))
     ∙ sym (ones_step w)
 
-pub trues-four : (ws : List ℕ) → length ws ≡ 4 → ((i : ℕ) → get_or ws i 0 < 2 ^ 64)
-    → ones (get_or ws 0 0) + ones (get_or ws 1 0) + ones (get_or ws 2 0) + ones (get_or ws 3 0) ≡ trues (flags_of 64 ws)
+pub trues-words : (k : ℕ) (ws : List ℕ) → ((i : ℕ) → get_or ws i 0 < 2 ^ k) → trues (flags_of k ws) ≡ sum_by ones ws
 unfolding flags_of trues
-trues-four [] e f = absurd (omega arith)
-trues-four (a ∷ []) e f = absurd (omega arith)
-trues-four (a ∷ b ∷ []) e f = absurd (omega arith)
-trues-four (a ∷ b ∷ c ∷ []) e f = absurd (omega arith)
-trues-four (a ∷ b ∷ c ∷ d ∷ []) e f =
-    omega (
-      arith,
-      trues-append (digits 64 a) (flags_of 64 (b ∷ c ∷ d ∷ [])),
-      trues-append (digits 64 b) (flags_of 64 (c ∷ d ∷ [])),
-      trues-append (digits 64 c) (flags_of 64 (d ∷ [])),
-      trues-append (digits 64 d) [],
-      trues-digits 64 a (f 0),
-      trues-digits 64 b (f 1),
-      trues-digits 64 c (f 2),
-      trues-digits 64 d (f 3),
-    )
-trues-four (a ∷ b ∷ c ∷ d ∷ x ∷ ws) e f = absurd (omega arith)
+trues-words k [] f = refl
+trues-words k (w ∷ ws) f =
+    trues-append (digits k w) (flags_of k ws) ∙ ap₂ (λ (x y : ℕ). x + y) (trues-digits k w (f 0)) (trues-words k ws (λ i. f (suc i)))
+    ∙ sym (sum_by-cons ones w ws)
 
 -- ---- a run of ones
 

@@ -23,24 +23,17 @@ impl Isolated {
     pub fn contains(self, p: usize) -> bool
         ensures { result ≡ get_or (flags self) p false }
     {
-        if 256 <= p {
-            return false;
-        }
-        let words = self.words;
-        (words[p / 64] >> (p % 64)) % 2 == 1
+        p < 256 && (self.words[p / 64] >> (p % 64)) % 2 == 1
     }
 
     // A position from 256 on has no bit, so there is nothing to set.
-    pub fn insert(self, p: usize) -> Isolated
+    pub fn insert(mut self, p: usize) -> Isolated
         ensures { flags result ≡ set (flags self) p true }
     {
-        if 256 <= p {
-            return self;
+        if p < 256 {
+            self.words[p / 64] |= 1 << (p % 64);
         }
-        let mut words = self.words;
-        let i = p / 64;
-        words[i] = words[i] | (1u64 << (p % 64));
-        Isolated { words }
+        self
     }
 
     // The first position from `from` on and below `n` that is not isolated, or `n` where there is
@@ -48,7 +41,7 @@ impl Isolated {
     pub fn next_free(self, from: usize, n: usize) -> usize
         ensures { result ≡ next_free (flags self) from n }
     {
-        let words = self.words;
+        // The loop counts no index: a turn passes a whole run, so that a word is read a few times and not bit by bit.
         let mut p = from;
         while p < n {
             if 256 <= p {
@@ -56,11 +49,11 @@ impl Isolated {
             }
             // The shift brings zeros in at the top, so a run ends with its word at the latest, and
             // the next turn goes on in the word after it.
-            let run = u64::trailing_zeros(!(words[p / 64] >> (p % 64)));
+            let run = (!(self.words[p / 64] >> (p % 64))).trailing_zeros() as usize;
             if run == 0 {
                 return p;
             }
-            p += run as usize;
+            p += run;
         }
         n
     }
@@ -69,11 +62,6 @@ impl Isolated {
     pub fn count(self) -> usize
         ensures { (result ≡ trues (flags self)) × (result ≤ 256) }
     {
-        let w = self.words;
-        let a = u64::count_ones(w[0]) as usize;
-        let b = u64::count_ones(w[1]) as usize;
-        let c = u64::count_ones(w[2]) as usize;
-        let d = u64::count_ones(w[3]) as usize;
-        a + b + c + d
+        self.words.iter().map(|w| w.count_ones() as usize).sum()
     }
 }

@@ -1,4 +1,5 @@
 -- Modules of proofs that belong to no one function.
-pub mod Cases
+pub mod Names
+pub mod Cards
 pub mod Inverse
 pub mod Examples

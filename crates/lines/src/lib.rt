@@ -1,192 +1,118 @@
 // The lines of a sheet, each read from its bytes without the byte 10 that ends it.
 #![tactic(auto)]
 
-ghost use Rattle.std.specs.Prelude.{◌≡◌};
-ghost use Rattle.lines.specs.Read.{card_row, with_dependency, with_region, with_policy, with_kind, card_of, retry_of, begin_row, then_row, answer_of, row_of};
+ghost use Rattle.std.specs.Prelude.{◌≡◌, [], ◌∷◌, Some, None};
+ghost use Rattle.model.specs.declared.ComponentKind.TheVariants.{Active, Passive};
+ghost use Rattle.model.specs.declared.FailurePolicy.TheVariants.{Required, Isolable, Cascading};
+ghost use Rattle.text.specs.Text.{bytes};
+ghost use Rattle.fields.specs.Fields.{number_of, lookup};
+ghost use Rattle.lines.specs.Read.{card_of, retry_of, answer_of, row_of};
 
-use fields::OptionNumber;
 use model::{
-    Component, ComponentAttrs, ComponentId, ComponentKind, Event, FailurePolicy, OptionId, RegionId,
+    Component, ComponentAttrs, ComponentId, ComponentKind, Event, FailurePolicy, RegionId,
 };
-use pending::OptionEvent;
 use settling::Reply;
 
-// What a line says: B, C, E and R, or a line that is none of these.
+// What a line says: B, C, E and R.
 #[derive(Clone, Copy)]
 pub enum Row {
     Retry(u8),
     Card(Component),
     Begin(Event),
     Answer(Reply),
-    Bad,
 }
 
-fn card_row(
-    id: ComponentId,
-    kind: ComponentKind,
-    policy: FailurePolicy,
-    region: RegionId,
-    depends_on: OptionId,
-) -> Row
-    ensures { result ≡ card_row id kind policy region depends_on }
+// A number from 0 to 255.
+fn byte(f: &[u8]) -> Option<u8>
+    ensures { result ≡ number_of 255 f.now }
 {
-    let attrs = ComponentAttrs {
-        kind: kind,
-        failure_policy: policy,
-        recovery_region: region,
-        depends_on: depends_on,
-    };
-    Row::Card(Component {
-        id: id,
-        attrs: attrs,
-    })
+    fields::number(f, 255).map(|n| n as u8)
 }
 
-// The last field of a C line: `-` or a component.
-fn with_dependency(
-    f: &[u8],
-    id: ComponentId,
-    kind: ComponentKind,
-    policy: FailurePolicy,
-    region: RegionId,
-) -> Row
-    ensures { result ≡ with_dependency f.now id kind policy region }
+// A component's kind by its name.
+#[tactic(auto, using(crate::proofs::Names::told), unfolding(fields::specs::Fields::lookup))]
+fn kind_of(name: &[u8]) -> Option<ComponentKind>
+    ensures { result ≡ lookup name.now ((bytes "Active", Some Active) ∷ (bytes "Passive", Some Passive) ∷ []) None }
 {
-    if fields::same(f, b"-") {
-        return card_row(id, kind, policy, region, OptionId::None);
-    }
-    match fields::number(f, 255) {
-        OptionNumber::None => Row::Bad,
-        OptionNumber::Some(d) => card_row(
-            id,
-            kind,
-            policy,
-            region,
-            OptionId::Some(ComponentId(d as u8)),
-        ),
+    match name {
+        b"Active" => Some(ComponentKind::Active),
+        b"Passive" => Some(ComponentKind::Passive),
+        _ => None,
     }
 }
 
-// The fields of a C line from the region on.
-fn with_region(l: &[u8], id: ComponentId, kind: ComponentKind, policy: FailurePolicy) -> Row
-    ensures { result ≡ with_region l.now id kind policy }
+// A failure policy by its name.
+#[tactic(auto, using(crate::proofs::Names::told), unfolding(fields::specs::Fields::lookup))]
+fn policy_of(name: &[u8]) -> Option<FailurePolicy>
+    ensures { result ≡ lookup name.now ((bytes "Required", Some Required) ∷ (bytes "Isolable", Some Isolable) ∷ (bytes "Cascading", Some Cascading) ∷ []) None }
 {
-    match fields::number(fields::first(l), 255) {
-        OptionNumber::None => Row::Bad,
-        OptionNumber::Some(g) => with_dependency(
-            fields::rest(l),
-            id,
-            kind,
-            policy,
-            RegionId(g as u8),
-        ),
+    match name {
+        b"Required" => Some(FailurePolicy::Required),
+        b"Isolable" => Some(FailurePolicy::Isolable),
+        b"Cascading" => Some(FailurePolicy::Cascading),
+        _ => None,
     }
 }
 
-// The fields of a C line from the policy on.
-fn with_policy(l: &[u8], id: ComponentId, kind: ComponentKind) -> Row
-    ensures { result ≡ with_policy l.now id kind }
-{
-    let name = fields::first(l);
-    let others = fields::rest(l);
-    if fields::same(name, b"Required") {
-        return with_region(others, id, kind, FailurePolicy::Required);
-    }
-    if fields::same(name, b"Isolable") {
-        return with_region(others, id, kind, FailurePolicy::Isolable);
-    }
-    if fields::same(name, b"Cascading") {
-        return with_region(others, id, kind, FailurePolicy::Cascading);
-    }
-    Row::Bad
-}
-
-// The fields of a C line from the kind on.
-fn with_kind(l: &[u8], id: ComponentId) -> Row
-    ensures { result ≡ with_kind l.now id }
-{
-    let name = fields::first(l);
-    let others = fields::rest(l);
-    if fields::same(name, b"Active") {
-        return with_policy(others, id, ComponentKind::Active);
-    }
-    if fields::same(name, b"Passive") {
-        return with_policy(others, id, ComponentKind::Passive);
-    }
-    Row::Bad
-}
-
-// A C line after its letter.
-fn read_card(l: &[u8]) -> Row
+// A C line after its letter: id, kind, policy, region, and `-` or the component that it depends on.
+#[tactic(auto, using(crate::proofs::Cards::card), unfolding(crate::specs::Read::card_of, crate::specs::Read::with_region))]
+fn read_card(l: &[u8]) -> Option<Row>
     ensures { result ≡ card_of l.now }
 {
-    match fields::number(fields::first(l), 255) {
-        OptionNumber::None => Row::Bad,
-        OptionNumber::Some(i) => with_kind(fields::rest(l), ComponentId(i as u8)),
-    }
+    let id = ComponentId(byte(fields::first(l))?);
+    let l = fields::rest(l);
+    let kind = kind_of(fields::first(l))?;
+    let l = fields::rest(l);
+    let failure_policy = policy_of(fields::first(l))?;
+    let l = fields::rest(l);
+    let recovery_region = RegionId(byte(fields::first(l))?);
+    let depends_on = match fields::rest(l) {
+        b"-" => None,
+        f => Some(ComponentId(byte(f)?)),
+    };
+    let attrs = ComponentAttrs {
+        kind,
+        failure_policy,
+        recovery_region,
+        depends_on,
+    };
+    Some(Row::Card(Component { id, attrs }))
 }
 
 // A B line after its letter.
-fn read_retry(f: &[u8]) -> Row
+#[tactic(auto, unfolding(crate::specs::Read::retry_of))]
+fn read_retry(f: &[u8]) -> Option<Row>
     ensures { result ≡ retry_of f.now }
 {
-    match fields::number(f, 255) {
-        OptionNumber::None => Row::Bad,
-        OptionNumber::Some(n) => Row::Retry(n as u8),
-    }
-}
-
-fn begin_row(e: OptionEvent) -> Row
-    ensures { result ≡ begin_row e }
-{
-    match e {
-        OptionEvent::NoEvent => Row::Bad,
-        OptionEvent::OneEvent(event) => Row::Begin(event),
-    }
-}
-
-fn then_row(e: OptionEvent) -> Row
-    ensures { result ≡ then_row e }
-{
-    match e {
-        OptionEvent::NoEvent => Row::Bad,
-        OptionEvent::OneEvent(event) => Row::Answer(Reply::Then(event)),
-    }
+    byte(f).map(Row::Retry)
 }
 
 // An R line after its letter.
-fn read_answer(l: &[u8]) -> Row
+#[tactic(auto, using(crate::proofs::Names::told), unfolding(fields::specs::Fields::lookup, crate::specs::Read::answer_of))]
+fn read_answer(l: &[u8]) -> Option<Row>
     ensures { result ≡ answer_of l.now }
 {
-    if fields::same(l, b"ok") {
-        return Row::Answer(Reply::Done);
+    match l {
+        b"ok" => Some(Row::Answer(Reply::Done)),
+        b"no" => Some(Row::Answer(Reply::Failed)),
+        _ => match fields::first(l) {
+            b"then" => Some(Row::Answer(Reply::Then(events::read_event(fields::rest(l))?))),
+            _ => None,
+        },
     }
-    if fields::same(l, b"no") {
-        return Row::Answer(Reply::Failed);
-    }
-    if fields::same(fields::first(l), b"then") {
-        return then_row(events::read_event(fields::rest(l)));
-    }
-    Row::Bad
 }
 
-// A line of a sheet. Any bytes whatever are one of the rows.
-pub fn read_line(line: &[u8]) -> Row
+// A line of a sheet. Any bytes whatever are one of the rows, or none.
+#[tactic(auto, using(crate::proofs::Names::told), unfolding(fields::specs::Fields::lookup, crate::specs::Read::row_of))]
+pub fn read_line(line: &[u8]) -> Option<Row>
     ensures { result ≡ row_of line.now }
 {
-    let letter = fields::first(line);
     let others = fields::rest(line);
-    if fields::same(letter, b"B") {
-        return read_retry(others);
+    match fields::first(line) {
+        b"B" => read_retry(others),
+        b"C" => read_card(others),
+        b"E" => events::read_event(others).map(Row::Begin),
+        b"R" => read_answer(others),
+        _ => None,
     }
-    if fields::same(letter, b"C") {
-        return read_card(others);
-    }
-    if fields::same(letter, b"E") {
-        return begin_row(events::read_event(others));
-    }
-    if fields::same(letter, b"R") {
-        return read_answer(others);
-    }
-    Row::Bad
 }

@@ -44,13 +44,15 @@ ran_then f a b = record {
 pub ran-still : {n : ℕ} {w v r : Work} {k : Core} (f : Core → Out) → Ran n w (stay k) v → Ran n v (f (core_of n v)) r → Ran n w (f k) r
 ran-still f a b = ran_then f a b
 
--- and where the second is one effect, a new state or the window.
-pub ran-say : {n : ℕ} {w v r : Work} {o : Out} (e : Effect) → Ran n w o v → r ≡ sink_is (with_effect v.sink e) v → Ran n w (out o.core (o.said ++ (e ∷ []))) r
+-- and where the second is one effect, which the code puts into the sink in place or by a call,
+pub ran-emit : {n : ℕ} {w v : Work} {o : Out} {s : Sink} (e : Effect) → Ran n w o v → s ≡ with_effect v.sink e → Ran n w (out o.core (o.said ++ (e ∷ []))) (sink_is s v)
 unfolding says
-ran-say {n} {w} {v} {r} {o} e a q =
-    subst (λ (x : Work). Ran n w (out o.core (o.said ++ (e ∷ []))) x) (sym q)
-    (ran_then (λ (c : Core). out c (e ∷ [])) a (record { core = refl; sink = refl; fit = a.fit }))
+ran-emit e a q = ran_then (λ (c : Core). out c (e ∷ [])) a (record { core = refl; sink = q; fit = a.fit })
 
+pub ran-say : {n : ℕ} {w v r : Work} {o : Out} (e : Effect) → Ran n w o v → r ≡ sink_is (with_effect v.sink e) v → Ran n w (out o.core (o.said ++ (e ∷ []))) r
+ran-say {n} {w} {v} {r} {o} e a q = subst (λ (x : Work). Ran n w (out o.core (o.said ++ (e ∷ []))) x) (sym q) (ran-emit e a refl)
+
+-- a new state, or the window.
 pub ran-state : {n : ℕ} {w v r : Work} {o : Out} (s : State) → Ran n w o v → r ≡ state_is s v → Ran n w (out (in_state s o.core) o.said) r
 ran-state {n} {w} {v} {r} {o} s a q =
     subst (λ (x : Work). Ran n w (out (in_state s o.core) o.said) x) (sym q)

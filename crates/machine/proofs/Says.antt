@@ -15,12 +15,6 @@ unfolding says
 says-append s [] fs = refl
 says-append s (e ∷ es) fs = says-append (with_effect s e) es fs
 
--- The slots stay as many.
-pub says-slots : (s : Sink) (es : List Effect) → length (says s es).effects ≡ length s.effects
-unfolding says
-says-slots s [] = refl
-says-slots s (e ∷ es) = says-slots (with_effect s e) es ∙ with-slots s e
-
 pub says-held : (s : Sink) (es : List Effect) → length s.effects ≡ 512 → s.len + length es ≤ 512 → (held (says s es) ≡ held s ++ es) × ((says s es).len ≡ s.len + length es)
 unfolding says
 says-held s [] f h = (sym (append-nil (held s)), omega arith)

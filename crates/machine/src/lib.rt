@@ -12,20 +12,27 @@ use isolated::Isolated;
 use model::{Effect, State};
 use store::{Sink, Status};
 
-#[derive(Clone, Copy)]
+#[derive(Clone, Copy, Debug, PartialEq, Eq)]
 pub enum ComponentLifecycle {
     Nominal,
     Isolated,
 }
 
 // A component's status as the scope names it. Only the isolated set says who is isolated.
-#[derive(Clone, Copy)]
+#[derive(Clone, Copy, Debug, PartialEq, Eq)]
 pub struct ComponentStatus {
     pub lifecycle: ComponentLifecycle,
     pub retry: u8,
     pub awaiting_boot: bool,
     pub released: bool,
 }
+
+// What is stored of a new component.
+const UNSET: Status = Status {
+    retry: 0,
+    awaiting_boot: false,
+    released: false,
+};
 
 // What the machine keeps between events, beside its state.
 #[derive(Clone, Copy)]
@@ -41,16 +48,8 @@ impl Rot {
     pub fn new() -> Self
         ensures { result ≡ new_rot }
     {
-        let none: u8 = 0;
-        let off = false;
-        let unset = Status {
-            retry: none,
-            awaiting_boot: off,
-            released: off,
-        };
-        let statuses = [unset; 255];
         Rot {
-            statuses: statuses,
+            statuses: [UNSET; 255],
             isolated: Isolated::new(),
             cursor: 0,
             pending_commit: false,
@@ -61,8 +60,7 @@ impl Rot {
     pub fn isolated_words(self) -> [u64; 4]
         ensures { (result ≡ self.isolated.words) × (flags_of 64 result ≡ flags self.isolated) }
     {
-        let isolated = self.isolated;
-        isolated.words
+        self.isolated.words
     }
 }
 
@@ -78,22 +76,16 @@ pub struct Work {
 fn joined_with(isolated: bool, s: Status) -> ComponentStatus
     ensures { result ≡ status_of isolated s }
 {
-    let retry = s.retry;
-    let awaiting_boot = s.awaiting_boot;
-    let released = s.released;
-    if isolated {
-        return ComponentStatus {
-            lifecycle: ComponentLifecycle::Isolated,
-            retry: retry,
-            awaiting_boot: awaiting_boot,
-            released: released,
-        };
-    }
+    let lifecycle = if isolated {
+        ComponentLifecycle::Isolated
+    } else {
+        ComponentLifecycle::Nominal
+    };
     ComponentStatus {
-        lifecycle: ComponentLifecycle::Nominal,
-        retry: retry,
-        awaiting_boot: awaiting_boot,
-        released: released,
+        lifecycle,
+        retry: s.retry,
+        awaiting_boot: s.awaiting_boot,
+        released: s.released,
     }
 }
 
@@ -102,18 +94,9 @@ fn joined_with(isolated: bool, s: Status) -> ComponentStatus
 pub fn status_at(rot: Rot, n: usize, p: usize) -> ComponentStatus
     ensures { result ≡ status_at (statuses_of n rot) p }
 {
-    if p < n {
-        if p < 255 {
-            let isolated = rot.isolated;
-            let s = rot.statuses[p];
-            return joined_with(isolated.contains(p), s);
-        }
-    }
-    ComponentStatus {
-        lifecycle: ComponentLifecycle::Nominal,
-        retry: 0,
-        awaiting_boot: false,
-        released: false,
+    match rot.statuses.get(p) {
+        Some(s) if p < n => joined_with(rot.isolated.contains(p), *s),
+        _ => joined_with(false, UNSET),
     }
 }
 
@@ -121,70 +104,46 @@ pub fn status_at(rot: Rot, n: usize, p: usize) -> ComponentStatus
 pub fn is_gated(rot: Rot, n: usize, p: usize) -> bool
     ensures { result ≡ iso (status_at (statuses_of n rot) p) }
 {
-    let s = status_at(rot, n, p);
-    let lifecycle = s.lifecycle;
-    match lifecycle {
-        ComponentLifecycle::Nominal => false,
-        ComponentLifecycle::Isolated => true,
-    }
+    status_at(rot, n, p).lifecycle == ComponentLifecycle::Isolated
 }
 
-// One effect more at the end. Here and below the whole is built anew.
-pub fn say(w: Work, effect: Effect) -> Work
+// One effect more at the end.
+pub fn say(mut w: Work, effect: Effect) -> Work
     ensures { result ≡ sink_is (with_effect w.sink effect) w }
 {
-    let state = w.state;
-    let rot = w.rot;
-    let sink = w.sink;
-    let longer = store::emitted(sink, effect);
-    Work {
-        state,
-        rot,
-        sink: longer,
-    }
+    w.sink.emit(effect);
+    w
 }
 
-pub fn in_state(w: Work, state: State) -> Work
+pub fn in_state(mut w: Work, state: State) -> Work
     ensures { result ≡ state_is state w }
 {
-    let kept = w.rot;
-    let sink = w.sink;
-    Work {
-        state,
-        rot: kept,
-        sink,
-    }
+    w.state = state;
+    w
 }
 
 // What is kept changes as a whole.
-pub fn with_rot(w: Work, rot: Rot) -> Work
+pub fn with_rot(mut w: Work, rot: Rot) -> Work
     ensures { result ≡ rot_is rot w }
 {
-    let now = w.state;
-    let said = w.sink;
-    Work {
-        state: now,
-        rot,
-        sink: said,
-    }
+    w.rot = rot;
+    w
 }
 
 // Opens or closes the window in which an update waits for its commit.
-pub fn with_window(w: Work, open: bool) -> Work
+pub fn with_window(mut w: Work, open: bool) -> Work
     ensures { result ≡ open_is «open» w }
 {
-    let mut rot = w.rot;
-    rot.pending_commit = open;
-    with_rot(w, rot)
+    w.rot.pending_commit = open;
+    w
 }
 
 // What is stored of the component at p. Whether it is isolated is not stored, and stays as it is. The length of the
 // chain, n, is there for the contract alone.
-pub fn put_status(w: Work, n: usize, p: usize, s: Status) -> Work
+pub fn put_status(mut w: Work, n: usize, p: usize, s: Status) -> Work
     requires { (n ≤ 255) × (p < n) × (Fit n w.rot) }
     ensures { Does n w (putting s p) result }
 {
-    let mut rot = w.rot;
-    rot.statuses[p] = s;
-    with_rot(w, rot)
+    w.rot.statuses[p] = s;
+    w
 }

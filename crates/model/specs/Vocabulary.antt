@@ -1,9 +1,7 @@
 -- Words of section 1: numbers as ids, attributes, the component that an event names.
-use Rattle.std.specs.Prelude.{ℕ, Bool, true, false}
+use Rattle.std.specs.Prelude.{ℕ, Bool, true, false, Option, None, Some}
 use Rattle.model.specs.declared.ComponentId.{ComponentId}
 use Rattle.model.specs.declared.RegionId.{RegionId}
-use Rattle.model.specs.declared.OptionId.{OptionId}
-use Rattle.model.specs.declared.OptionId.TheVariants.{None, Some}
 use Rattle.model.specs.declared.ComponentKind.{ComponentKind}
 use Rattle.model.specs.declared.FailurePolicy.{FailurePolicy}
 use Rattle.model.specs.declared.ComponentAttrs.{ComponentAttrs}
@@ -32,7 +30,7 @@ abbrev pub depending_on : ComponentId → ComponentAttrs → ComponentAttrs
 depending_on d a = record { kind = a.kind; failure_policy = a.failure_policy; recovery_region = a.recovery_region; depends_on = Some d }
 
 -- The component that an event names, if it names one.
-abbrev pub named : Event → OptionId
+abbrev pub named : Event → Option ComponentId
 named (PowerGood r) = None
 named (VerificationPassed i) = Some i
 named (VerificationFailed i) = Some i

@@ -6,7 +6,7 @@ ghost use Rattle.std.specs.Prelude.{◌≡◌};
 ghost use Rattle.model.specs.Vocabulary.{id_of, region_of, plain_attrs, in_region, depending_on, named};
 
 // Names one component. What it stands for is the board's affair.
-#[derive(Clone, Copy)]
+#[derive(Clone, Copy, Debug, PartialEq, Eq)]
 pub struct ComponentId(pub u8);
 
 impl ComponentId {
@@ -19,12 +19,20 @@ impl ComponentId {
     pub fn get(self) -> u8
         ensures { result ≡ self.0 }
     {
-        self.0
+        self.0 // the component's number
+    }
+}
+
+impl From<u8> for ComponentId {
+    ghost from_gives = { λ id made. made ≡ id_of id };
+
+    fn from(id: u8) -> Self {
+        ComponentId::new(id)
     }
 }
 
 // Names a recovery region. A type of its own, so that it is never taken for a component.
-#[derive(Clone, Copy)]
+#[derive(Clone, Copy, Debug, PartialEq, Eq)]
 pub struct RegionId(pub u8);
 
 impl RegionId {
@@ -37,37 +45,37 @@ impl RegionId {
     pub fn get(self) -> u8
         ensures { result ≡ self.0 }
     {
-        let id = self.0;
-        id
+        self.0 // the region's number
     }
 }
 
-// The source's Option<ComponentId>.
-#[derive(Clone, Copy)]
-pub enum OptionId {
-    None,
-    Some(ComponentId),
+impl From<u8> for RegionId {
+    ghost from_gives = { λ id made. made ≡ region_of id };
+
+    fn from(id: u8) -> Self {
+        RegionId::new(id)
+    }
 }
 
-#[derive(Clone, Copy)]
+#[derive(Clone, Copy, Debug, PartialEq, Eq)]
 pub enum ComponentKind {
     Active,
     Passive,
 }
 
-#[derive(Clone, Copy)]
+#[derive(Clone, Copy, Debug, PartialEq, Eq)]
 pub enum FailurePolicy {
     Required,
     Isolable,
     Cascading,
 }
 
-#[derive(Clone, Copy)]
+#[derive(Clone, Copy, Debug, PartialEq, Eq)]
 pub struct ComponentAttrs {
     pub kind: ComponentKind,
     pub failure_policy: FailurePolicy,
     pub recovery_region: RegionId,
-    pub depends_on: OptionId,
+    pub depends_on: Option<ComponentId>,
 }
 
 impl ComponentAttrs {
@@ -76,13 +84,14 @@ impl ComponentAttrs {
         ensures { result ≡ plain_attrs kind failure_policy }
     {
         ComponentAttrs {
-            kind: kind,
-            failure_policy: failure_policy,
+            kind,
+            failure_policy,
             recovery_region: RegionId(0),
-            depends_on: OptionId::None,
+            depends_on: None,
         }
     }
 
+    // The six that follow are the source's names; each is a call of plain.
     pub fn active_required() -> Self
         ensures { result ≡ plain_attrs ComponentKind.Active FailurePolicy.Required }
     {
@@ -126,23 +135,16 @@ impl ComponentAttrs {
         self
     }
 
-    pub fn with_depends_on(self, dependency: ComponentId) -> Self
+    pub fn with_depends_on(mut self, dependency: ComponentId) -> Self
         ensures { result ≡ depending_on dependency self }
     {
-        let kind = self.kind;
-        let failure_policy = self.failure_policy;
-        let recovery_region = self.recovery_region;
-        ComponentAttrs {
-            kind: kind,
-            failure_policy: failure_policy,
-            recovery_region: recovery_region,
-            depends_on: OptionId::Some(dependency),
-        }
+        self.depends_on = Some(dependency);
+        self
     }
 }
 
 // What the board's power-on checks found.
-#[derive(Clone, Copy)]
+#[derive(Clone, Copy, Debug, PartialEq, Eq)]
 pub enum PowerOnResult {
     Provisioned,
     Unprovisioned,
@@ -150,7 +152,7 @@ pub enum PowerOnResult {
 }
 
 // Why a boot walk failed at a checkpoint.
-#[derive(Clone, Copy)]
+#[derive(Clone, Copy, Debug, PartialEq, Eq)]
 pub enum BootFailureKind {
     TimedOut,
     DeviceRetriable,
@@ -158,7 +160,7 @@ pub enum BootFailureKind {
 }
 
 // Everything that the outside can tell the state machine. A checkpoint is a number, 0 to 65535.
-#[derive(Clone, Copy)]
+#[derive(Clone, Copy, Debug, PartialEq, Eq)]
 pub enum Event {
     PowerGood(PowerOnResult),
     VerificationPassed(ComponentId),
@@ -186,38 +188,34 @@ pub enum Event {
 
 impl Event {
     // The component that the event names, or none.
-    pub fn component_id(self) -> OptionId
+    pub fn component_id(self) -> Option<ComponentId>
         ensures { result ≡ named self }
     {
         match self {
-            Event::PowerGood(_) => OptionId::None,
-            Event::VerificationPassed(id) => OptionId::Some(id),
-            Event::VerificationFailed(id) => OptionId::Some(id),
-            Event::ComponentReady(id) => OptionId::Some(id),
-            Event::Booted(id) => OptionId::Some(id),
-            Event::AttestationChallenge => OptionId::None,
-            Event::UpdateRequest => OptionId::None,
-            Event::UpdateVerified => OptionId::None,
-            Event::UpdateRejected => OptionId::None,
-            Event::BootConfirmed(id) => OptionId::Some(id),
-            Event::CorruptionDetected(id) => OptionId::Some(id),
-            Event::Restored(id) => OptionId::Some(id),
-            Event::RecoveryUnavailable(id) => OptionId::Some(id),
-            Event::RecoveryFailed => OptionId::None,
-            Event::BootFailed {
-                id,
-                checkpoint: _,
-                kind: _,
-            } => OptionId::Some(id),
-            Event::Timeout(id) => OptionId::Some(id),
-            Event::CommitTimeout => OptionId::None,
-            Event::EffectFailed => OptionId::None,
+            Event::VerificationPassed(id)
+            | Event::VerificationFailed(id)
+            | Event::ComponentReady(id)
+            | Event::Booted(id)
+            | Event::BootConfirmed(id)
+            | Event::CorruptionDetected(id)
+            | Event::Restored(id)
+            | Event::RecoveryUnavailable(id)
+            | Event::BootFailed { id, .. }
+            | Event::Timeout(id) => Some(id),
+            Event::PowerGood(_)
+            | Event::AttestationChallenge
+            | Event::UpdateRequest
+            | Event::UpdateVerified
+            | Event::UpdateRejected
+            | Event::RecoveryFailed
+            | Event::CommitTimeout
+            | Event::EffectFailed => None,
         }
     }
 }
 
 // Everything that the state machine can ask the outside to do, and Emit, which never leaves it.
-#[derive(Clone, Copy)]
+#[derive(Clone, Copy, Debug, PartialEq, Eq)]
 pub enum Effect {
     ReadFirmware(ComponentId),
     VerifyFirmware(ComponentId),
@@ -246,11 +244,11 @@ pub enum Effect {
     Emit(Event),
 }
 
-#[derive(Clone, Copy)]
+#[derive(Clone, Copy, Debug, PartialEq, Eq)]
 pub enum State {
     PowerOnReset,
     PreSupervision,
-    AwaitingReady(OptionId),
+    AwaitingReady(Option<ComponentId>),
     Ready,
     Updating,
     Recovering(ComponentId),
@@ -258,7 +256,7 @@ pub enum State {
 }
 
 // One entry of a chain.
-#[derive(Clone, Copy)]
+#[derive(Clone, Copy, Debug, PartialEq, Eq)]
 pub struct Component {
     pub id: ComponentId,
     pub attrs: ComponentAttrs,

@@ -11,7 +11,9 @@ use corruption::Situation;
 use machine::Work;
 use model::{ComponentId, Event};
 
-// The rule of a number from the table, for the event and the component that it names.
+// The rule of a number from the table, for the event and the component that it names. The branch is on a number: document 01
+// asks for a table of rule numbers.
+#[tactic(auto, unfolding(crate::specs::Numbered::numbered))]
 pub fn apply(
     chain: Chain,
     max_retry: u8,
@@ -24,12 +26,11 @@ pub fn apply(
     requires { Placed chain w id p }
     ensures { Does (size chain) w (numbered_by (entries chain) max_retry event id rule) result }
 {
-    let state = w.state;
     match rule {
         1 => updates::power_good(chain, w, table::power_on_result(event)),
         2 => walks::verification_passed(chain, w, id, p),
         3 => walks::verification_failed(chain, w, id, p),
-        4 => walks::component_ready(chain, w, id, p, walks::waits_in(state)),
+        4 => walks::component_ready(chain, w, id, p, walks::waits_in(w.state)),
         5 => walks::clear_awaiting_boot(chain, w, id, p),
         6 => updates::attestation_challenge(w),
         7 => entry::enter_updating(w),
@@ -40,8 +41,8 @@ pub fn apply(
         12 => corruption::handle_corruption(chain, w, id, p, Situation::Walking),
         13 => corruption::handle_corruption(chain, w, id, p, Situation::Elsewhere),
         14 => corruption::handle_corruption(chain, w, id, p, Situation::Updated),
-        15 => recovery::restored(chain, max_retry, w, id, p, recovery::recovers_in(state)),
-        16 => recovery::recovery_unavailable(chain, w, id, p, recovery::recovers_in(state)),
+        15 => recovery::restored(chain, max_retry, w, id, p, recovery::recovers_in(w.state)),
+        16 => recovery::recovery_unavailable(chain, w, id, p, recovery::recovers_in(w.state)),
         17 => entry::enter_locked(w),
         18 => failures::boot_failed(
             chain,

@@ -8,25 +8,26 @@ ghost use Rattle.printed.specs.Transcript.{lifecycle_text, flag_text, state_line
 ghost use Rattle.text.specs.Values.{option_text};
 
 use machine::{ComponentLifecycle, ComponentStatus};
-use model::{ComponentId, OptionId, State};
+use model::{ComponentId, State};
 use text::Line;
 
-fn push_option(l: Line, id: OptionId) -> Line
+fn push_option(l: Line, id: Option<ComponentId>) -> Line
     ensures { Pushed l (9 ∷ option_text id) result }
 {
     match id {
-        OptionId::None => text::push_field(l, b"-"),
-        OptionId::Some(id) => text::push_number(l, id.0 as u64),
+        None => text::push_field(l, b"-"),
+        Some(id) => text::push_number(l, id.0 as u64),
     }
 }
 
-fn awaiting_line(id: OptionId) -> Line
+fn awaiting_line(id: Option<ComponentId>) -> Line
     ensures { text_of result ≡ line (bytes "S" ⇥ bytes "AwaitingReady" ⇥ option_text id) }
 {
-    text::push(push_option(text::start(b'S', b"AwaitingReady"), id), 10)
+    text::push(push_option(text::start(b'S', b"AwaitingReady"), id), b'\n')
 }
 
 // The line of a state.
+#[tactic(auto, using(text::proofs::Laws::whole), unfolding(crate::specs::Transcript::state_line, crate::specs::Transcript::state_text))]
 pub fn state_line(state: State) -> Line
     ensures { text_of result ≡ state_line state }
 {
@@ -41,6 +42,7 @@ pub fn state_line(state: State) -> Line
     }
 }
 
+#[tactic(auto, unfolding(crate::specs::Transcript::lifecycle_text))]
 fn push_lifecycle(l: Line, lifecycle: ComponentLifecycle) -> Line
     ensures { Pushed l (9 ∷ lifecycle_text lifecycle) result }
 {
@@ -53,21 +55,15 @@ fn push_lifecycle(l: Line, lifecycle: ComponentLifecycle) -> Line
 fn push_flag(l: Line, on: bool) -> Line
     ensures { Pushed l (9 ∷ flag_text on) result }
 {
-    if on {
-        return text::push_field(l, b"1");
-    }
-    text::push_field(l, b"0")
+    text::push_number(l, u64::from(on))
 }
 
 // The line of a component's status.
 pub fn status_line(id: ComponentId, status: ComponentStatus) -> Line
     ensures { text_of result ≡ status_line id status }
 {
-    let lifecycle = status.lifecycle;
-    let retry = status.retry;
-    let awaiting_boot = status.awaiting_boot;
-    let released = status.released;
     let named = text::push_number(text::push(text::empty(), b'T'), id.0 as u64);
-    let counted = text::push_number(push_lifecycle(named, lifecycle), retry as u64);
-    text::push(push_flag(push_flag(counted, awaiting_boot), released), 10)
+    let counted = text::push_number(push_lifecycle(named, status.lifecycle), status.retry as u64);
+    let flagged = push_flag(push_flag(counted, status.awaiting_boot), status.released);
+    text::push(flagged, b'\n')
 }

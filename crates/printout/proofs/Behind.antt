@@ -1,4 +1,5 @@
 -- What is printed of a run: its transcript at the start of the array, and behind it the line of a refusal.
+use Rattle.std.specs.Prelude.{None, Some}
 use mathlib.Core.Path.{◌≡◌, sym, ap, ◌∙◌}
 use mathlib.Core.Bool.{Bool}
 use mathlib.Core.List.{List, [], ◌++◌, append_assoc, append-nil}
@@ -10,7 +11,6 @@ use lib.ListN.{length, take, drop, length-append}
 use lib.Seq.{take_at, length-take-le}
 use Rattle.model.specs.Vocabulary.{pick}
 use Rattle.text.specs.declared.Line.{Line}
-use Rattle.text.specs.declared.Room.TheVariants.{At, Full}
 use Rattle.text.specs.Lines.{text_of, Built, written, room_after, over}
 use Rattle.text.proofs.Laws.{fitted, held-short}
 use Rattle.text.proofs.Over.{room_at, room-full}
@@ -25,7 +25,7 @@ use Rattle.printout.proofs.Small.{run_small, refusal-short}
 
 -- A line that went into the array stands behind what was there.
 pub behind : (p : Printout) (s exit : List ℕ) (n : ℕ) → length p.bytes ≡ 65600
-    → At n ≡ room_after p.bytes p.len s
+    → Some n ≡ room_after p.bytes p.len s
     → exit ≡ written p.bytes p.len s
     → Lengthened p s record { bytes = exit; len = n }
 behind p s exit n full r e =
@@ -44,47 +44,60 @@ behind p s exit n full r e =
 
 -- There is room for it.
 pub no_room : (p : Printout) (s : List ℕ) (r : Printout) → length p.bytes ≡ 65600
-    → Full ≡ room_after p.bytes p.len s
+    → None ≡ room_after p.bytes p.len s
     → Lengthened p s r
 no_room p s r full e = record { fits = λ a b. absurd (omega (arith, room-full p.bytes p.len s e)) }
 
--- ---- The line of a refusal, behind a text
-
-shown-as : {t : List ℕ} {r : Printout} (u : List ℕ) → t ≡ u → Prints t r → Prints u r
-shown-as {t} {r} u e h = record { text = h.text ∙ e; within = h.within }
-
-pub refused-by : (p : Printout) (n q o : ℕ) (l : Line) (r : Printout) → n ≤ 9 → p.len ≤ 65536
-    → Built (refusal_line n q o) l
-    → Lengthened p (text_of l) r
-    → Prints (shown p ++ refusal_line n q o) r
-refused-by p n q o l r small room b g =
-    let whole : text_of l ≡ refusal_line n q o = b.text ∙ held-short (refusal_line n q o) (refusal-short n q o small) in
-    let short : length (text_of l) ≤ 64 = omega (arith, ap (λ (s : List ℕ). length s) whole, refusal-short n q o small) in
-    shown-as _ (ap (λ (s : List ℕ). shown p ++ s) whole) (g.fits room short)
-
 -- ---- What `replay` prints
 
+-- What is printed of s so far, and the answer to it: the line of a refusal is still to come, if there is one.
+pub record Awaits (s : List ℕ) (p : Printout) (a : Answer) : Type 0 where
+  pub whole : shown p ++ pick (eqb a.number 0) [] (refusal_line a.number a.place a.other) ≡ printed_of s
+  pub small : a.number ≤ 9
+  pub room : p.len ≤ 65536
+
+module _ (s : List ℕ) (p : Printout) (a : Answer) (h : Awaits s p a) where
+  abbrev line : List ℕ
+  line = refusal_line a.number a.place a.other
+
+  pub not-refused : a.number ≡ 0 → Prints (printed_of s) p
+  not-refused z =
+      let none : pick (eqb a.number 0) [] line ≡ [] = ap (λ (t : Bool). pick t [] line) (eq-eqb a.number 0 z) in
+      record {
+        text = sym (ap (λ (l : List ℕ). shown p ++ l) none ∙ append-nil (shown p)) ∙ h.whole;
+        within = omega (arith, h.room);
+      }
+
+  pub refused : (a.number ≡ 0 → ⊥) → (l : Line) (r : Printout)
+      → Built line l
+      → Lengthened p (text_of l) r
+      → Prints (printed_of s) r
+  refused z l r b g =
+      let short = refusal-short a.number a.place a.other h.small in
+      let told : text_of l ≡ line = b.text ∙ held-short line short in
+      let some : line ≡ pick (eqb a.number 0) [] line = sym (ap (λ (t : Bool). pick t [] line) (ne_eqb a.number 0 z)) in
+      let behind-it = g.fits h.room (omega (arith, ap (λ (t : List ℕ). length t) told, short)) in
+      record {
+        text = behind-it.text ∙ ap (λ (t : List ℕ). shown p ++ t) (told ∙ some) ∙ h.whole;
+        within = behind-it.within;
+      }
+
 -- A longer input.
-pub longer-input : (s : List ℕ) (p : Printout) (l : Line) (r : Printout) → 65536 < length s → p.len ≡ 0
-    → Built (refusal_line 1 0 0) l
-    → Lengthened p (text_of l) r
-    → Prints (printed_of s) r
+pub longer-input : (s bytes : List ℕ) → 65536 < length s
+    → Awaits s (record { bytes = bytes; len = 0 }) (record { number = 1; place = 0; other = 0; written = 0; settled = 0 })
 unfolding printed_of
-longer-input s p l r h none b g =
-    let empty : shown p ≡ [] = ap (λ (n : ℕ). take n p.bytes) none in
+longer-input s bytes h =
     let line = refusal_line 1 0 0 in
-    let long : line ≡ printed_of s =
-    sym (ap (λ (t : Bool). pick t line (printed_from (run_of s 65536 65536))) (lt-ltb 65536 (length s) h)) in
-    shown-as _ (ap (λ (t : List ℕ). t ++ line) empty ∙ long)
-    (refused-by p 1 0 0 l r (omega arith) (omega (arith, none)) b g)
+    record {
+      whole = sym (ap (λ (t : Bool). pick t line (printed_from (run_of s 65536 65536))) (lt-ltb 65536 (length s) h));
+      small = omega arith;
+      room = omega arith;
+    }
 
 -- A sheet that is run into the first 65,536 bytes.
 module _ (s out rest : List ℕ) (a : Answer) (exit : List ℕ) (full : length out ≡ 65536) (g : RunGives s out 65536 a exit) where
   abbrev o : Outcome
   o = run_of s 65536 65536
-
-  abbrev line : List ℕ
-  line = refusal_line o.number o.place o.other
 
   numbers : a ≡ numbers_of o
   numbers = g.numbers ∙ ap (λ (n : ℕ). numbers_of (run_of s n 65536)) full
@@ -92,10 +105,7 @@ module _ (s out rest : List ℕ) (a : Answer) (exit : List ℕ) (full : length o
   buffer : exit ≡ over out (transcript o.said)
   buffer = g.buffer ∙ ap (λ (n : ℕ). over out (transcript (run_of s n 65536).said)) full
 
-  abbrev after : Printout
-  after = record { bytes = exit ++ rest; len = a.written }
-
-  transcribed : shown after ≡ transcript o.said
+  transcribed : take a.written (exit ++ rest) ≡ transcript o.said
   unfolding over numbers_of
   transcribed =
       let t = transcript o.said in
@@ -108,30 +118,11 @@ module _ (s out rest : List ℕ) (a : Answer) (exit : List ℕ) (full : length o
   unfolding printed_of
   short-input h = sym (ap (λ (t : Bool). pick t (refusal_line 1 0 0) (printed_from o)) (le-ltb 65536 (length s) h))
 
-  within : a.written ≤ 65536
-  within = omega (arith, g.within, full)
-
-  pub not-refused : length s ≤ 65536 → a.number ≡ 0 → Prints (printed_of s) after
+  pub run-through : length s ≤ 65536 → Awaits s (record { bytes = exit ++ rest; len = a.written }) a
   unfolding printed_from numbers_of
-  not-refused h z =
-      let zero : o.number ≡ 0 = sym (ap (λ (x : Answer). x.number) numbers) ∙ z in
-      let none : pick (eqb o.number 0) [] line ≡ [] = ap (λ (t : Bool). pick t [] line) (eq-eqb o.number 0 zero) in
-      let said = transcript o.said in
-      let plain : said ≡ printed_from o = sym (ap (λ (l : List ℕ). said ++ l) none ∙ append-nil said) in
-      record { text = transcribed ∙ plain ∙ short-input h; within = omega (arith, within) }
-
-  pub refused : length s ≤ 65536 → (a.number ≡ 0 → ⊥) → (l : Line) (r : Printout)
-      → Built (refusal_line a.number a.place a.other) l
-      → Lengthened after (text_of l) r
-      → Prints (printed_of s) r
-  unfolding printed_from numbers_of
-  refused h z l r b e =
-      let same : a.number ≡ o.number = ap (λ (x : Answer). x.number) numbers in
-      let lined : refusal_line a.number a.place a.other ≡ line =
-      ap (λ (x : Answer). refusal_line x.number x.place x.other) numbers in
-      let said = transcript o.said in
-      let whole : said ++ line ≡ printed_from o =
-      sym (ap (λ (t : Bool). said ++ pick t [] line) (ne_eqb o.number 0 (λ y. z (same ∙ y)))) in
-      let small : a.number ≤ 9 = omega (arith, same, run_small s 65536 65536) in
-      shown-as _ ((λ j. transcribed j ++ lined j) ∙ whole ∙ short-input h)
-      (refused-by after a.number a.place a.other l r small within b e)
+  run-through h =
+      record {
+        whole = (λ j. transcribed j ++ pick (eqb (numbers j).number 0) [] (refusal_line (numbers j).number (numbers j).place (numbers j).other)) ∙ short-input h;
+        small = omega (arith, ap (λ (x : Answer). x.number) numbers, run_small s 65536 65536);
+        room = omega (arith, g.within, full);
+      }

@@ -4,7 +4,8 @@
 ghost use Rattle.text.specs.Lines.{text_of, Built};
 ghost use Rattle.printout.specs.Program.{refusal_line, printed_of, Prints, Lengthened};
 
-use text::{Line, Room};
+use sheet::Answer;
+use text::Line;
 
 // A transcript buffer of 65,536 bytes with room for one line behind it, and how many of the bytes are printed.
 #[derive(Clone, Copy)]
@@ -13,6 +14,15 @@ pub struct Printout {
     pub len: usize,
 }
 
+// The answer to an input of more than 65,536 bytes, which is not run: question 1, at no line.
+const TOO_LONG: Answer = Answer {
+    number: 1,
+    place: 0,
+    other: 0,
+    written: 0,
+    settled: 0,
+};
+
 // The line of a refusal.
 pub fn refusal_line(number: u64, place: u64, other: u64) -> Line
     ensures { Built (refusal_line number place other) result }
@@ -20,23 +30,18 @@ pub fn refusal_line(number: u64, place: u64, other: u64) -> Line
     let numbered = text::push_number(text::push(text::empty(), b'F'), number);
     text::push(
         text::push_number(text::push_number(numbered, place), other),
-        10,
+        b'\n',
     )
 }
 
-// A line behind what is printed.
-fn lengthened(p: Printout, l: Line) -> Printout
-    ensures { Lengthened p (text_of l) result }
-{
-    let at = p.len;
-    let mut bytes = p.bytes;
-    let room = text::append(&mut bytes, at, l);
-    match room {
-        Room::At(end) => Printout {
-            bytes: bytes,
-            len: end,
-        },
-        Room::Full => p,
+impl Printout {
+    // A line behind what is printed.
+    fn lengthen(&mut self, l: Line)
+        ensures { Lengthened self.old (text_of l) self.new }
+    {
+        if let Some(end) = text::append(&mut self.bytes, self.len, l) {
+            self.len = end;
+        }
     }
 }
 
@@ -44,24 +49,18 @@ fn lengthened(p: Printout, l: Line) -> Printout
 pub fn replay(input: &[u8]) -> Printout
     ensures { Prints (printed_of input.now) result }
 {
-    let mut bytes = [0u8; 65600];
-    if 65536 < input.len() {
-        let nothing = Printout {
-            bytes: bytes,
-            len: 0,
-        };
-        return lengthened(nothing, refusal_line(1, 0, 0));
-    }
-    let answer = sheet::run(input, &mut bytes[..65536], 65536);
-    let transcript = Printout {
-        bytes: bytes,
+    let mut bytes = [0; 65600];
+    let answer = if input.len() <= 65536 {
+        sheet::run(input, &mut bytes[..65536], 65536)
+    } else {
+        TOO_LONG
+    };
+    let mut printed = Printout {
+        bytes,
         len: answer.written as usize,
     };
-    if answer.number == 0 {
-        return transcript;
+    if answer.number != 0 {
+        printed.lengthen(refusal_line(answer.number, answer.place, answer.other));
     }
-    lengthened(
-        transcript,
-        refusal_line(answer.number, answer.place, answer.other),
-    )
+    printed
 }

@@ -1,5 +1,6 @@
 -- Reading inverts printing for whole sheets. Between a text and what it says stand its rows: a text is the lines of its rows,
 -- and rows with no bad line are those of what they say.
+use Rattle.std.specs.Prelude.{Option, None, Some}
 use mathlib.Core.Path.{◌≡◌, refl, sym, ap, ◌∙◌, subst}
 use mathlib.Core.Bool.{Bool, true, false}
 use mathlib.Core.Logic.{◌⊎◌, inl, inr}
@@ -16,7 +17,7 @@ use Rattle.fields.specs.Fields.{place_of}
 use Rattle.fields.proofs.Scan.{place-le}
 use Rattle.fields.proofs.Cut.{cut_at}
 use Rattle.lines.specs.declared.Row.{Row}
-use Rattle.lines.specs.declared.Row.TheVariants.{Retry, Card, Begin, Answer, Bad}
+use Rattle.lines.specs.declared.Row.TheVariants.{Retry, Card, Begin, Answer}
 use Rattle.lines.specs.Grammar.{retry_line, card_line, begin_line, answer_line, IsLine}
 use Rattle.lines.specs.Read.{row_of}
 use Rattle.lines.proofs.Inverse.{read-line, line-or-bad}
@@ -29,23 +30,23 @@ use Rattle.reader.proofs.Left.{bad-next}
 use Rattle.reader.proofs.Unbroken.{unbroken}
 
 -- The text of rows, where each is a line's. A bad row has no line.
-abbrev row_text : Row → List ℕ
-row_text (Retry n) = retry_line n
-row_text (Card c) = card_line c
-row_text (Begin e) = begin_line e
-row_text (Answer a) = answer_line a
-row_text Bad = []
+abbrev row_text : Option Row → List ℕ
+row_text (Some (Retry n)) = retry_line n
+row_text (Some (Card c)) = card_line c
+row_text (Some (Begin e)) = begin_line e
+row_text (Some (Answer a)) = answer_line a
+row_text None = []
 
-unfoldable rows_text : List Row → List ℕ
+unfoldable rows_text : List (Option Row) → List ℕ
 rows_text [] = []
 rows_text (r ∷ rs) = line (row_text r) ++ rows_text rs
 
-abbrev AreLines : List Row → Type 0
+abbrev AreLines : List (Option Row) → Type 0
 AreLines [] = Unit {0}
 AreLines (r ∷ rs) = IsLine (row_text r) r × AreLines rs
 
 -- The text of rows is read as these rows.
-read-rows : (rs : List Row) → AreLines rs → rows_in (rows_text rs) ≡ rs
+read-rows : (rs : List (Option Row)) → AreLines rs → rows_in (rows_text rs) ≡ rs
 unfolding rows_text
 read-rows [] h = rows_none
 read-rows (r ∷ rs) h =
@@ -58,39 +59,39 @@ rest-by : (t : Bool) (n m : ℕ) → 0 < n → pick t n m ≡ 0 → m ≡ 0
 rest-by true n m h e = absurd (omega arith)
 rest-by false n m h e = e
 
-rest-good : (part : Part) (n : ℕ) (r : Row) (rs : List Row) → 0 < n → bad_from part n (r ∷ rs) ≡ 0 → bad_from (part_after part r) (suc n) rs ≡ 0
+rest-good : (part : Part) (n : ℕ) (r : Option Row) (rs : List (Option Row)) → 0 < n → bad_from part n (r ∷ rs) ≡ 0 → bad_from (part_after part r) (suc n) rs ≡ 0
 rest-good part n r rs h e = rest-by (is_wrong (part_after part r)) n _ h (sym (bad-next part n r rs) ∙ e)
 
-bad-here : (part : Part) (n : ℕ) (rs : List Row) → bad_from part n (Bad ∷ rs) ≡ n
+bad-here : (part : Part) (n : ℕ) (rs : List (Option Row)) → bad_from part n (None ∷ rs) ≡ n
 unfolding bad_from
 bad-here Opening n rs = refl
 bad-here Cards n rs = refl
 bad-here Script n rs = refl
 bad-here Wrong n rs = refl
 
-its-text : (l : List ℕ) (r : Row) → IsLine l r → l ≡ row_text r
-its-text l (Retry n) h = h.0
-its-text l (Card c) h = h.0
-its-text l (Begin e) h = h.0
-its-text l (Answer a) h = h.0
-its-text l Bad h = absurd h
+its-text : (l : List ℕ) (r : Option Row) → IsLine l r → l ≡ row_text r
+its-text l (Some (Retry n)) h = h.0
+its-text l (Some (Card c)) h = h.0
+its-text l (Some (Begin e)) h = h.0
+its-text l (Some (Answer a)) h = h.0
+its-text l None h = absurd h
 
-record Printed (s : List ℕ) (rs : List Row) : Type 0 where
+record Printed (s : List ℕ) (rs : List (Option Row)) : Type 0 where
   text : s ≡ rows_text rs
   each : AreLines rs
 
-printed-next : (s l t : List ℕ) (r : Row) (rs : List Row) → s ≡ line l ++ t → IsLine l r → Printed t rs → Printed s (r ∷ rs)
+printed-next : (s l t : List ℕ) (r : Option Row) (rs : List (Option Row)) → s ≡ line l ++ t → IsLine l r → Printed t rs → Printed s (r ∷ rs)
 unfolding rows_text
 printed-next s l t r rs e h d =
     let a = its-text l r h in
     let b = d.text in
     record { text = e ∙ (λ j. line (a j) ++ b j); each = (subst (λ (x : List ℕ). IsLine x r) a h, d.each) }
 
-is-line : (part : Part) (n : ℕ) (l : List ℕ) (rs : List Row) → 0 < n → bad_from part n (row_of l ∷ rs) ≡ 0 → IsLine l (row_of l) ⊎ (row_of l ≡ Bad)
+is-line : (part : Part) (n : ℕ) (l : List ℕ) (rs : List (Option Row)) → 0 < n → bad_from part n (row_of l ∷ rs) ≡ 0 → IsLine l (row_of l) ⊎ (row_of l ≡ None)
     → IsLine l (row_of l)
 is-line part n l rs g e (inl h) = h
 is-line part n l rs g e (inr p) =
-    let z = sym (bad-here part n rs) ∙ ap (λ (r : Row). bad_from part n (r ∷ rs)) (sym p) ∙ e in
+    let z = sym (bad-here part n rs) ∙ ap (λ (r : Option Row). bad_from part n (r ∷ rs)) (sym p) ∙ e in
     absurd (omega arith)
 
 -- Where the same is known of every shorter text: the first line is ended and no bad one, or there is none.
@@ -121,20 +122,20 @@ text-rows zero s h part n g e = text-step s part n g e (λ t q p z. absurd (omeg
 text-rows (suc k) s h part n g e = text-step s part n g e (λ t q p z. text-rows k t (omega arith) p (suc n) (omega arith) z)
 
 -- The rows of what a sheet says.
-abbrev order_row : Order → Row
-order_row (Begins e) = Begin e
-order_row (Answers a) = Answer a
+abbrev order_row : Order → Option Row
+order_row (Begins e) = Some (Begin e)
+order_row (Answers a) = Some (Answer a)
 
-unfoldable order_rows : List Order → List Row
+unfoldable order_rows : List Order → List (Option Row)
 order_rows [] = []
 order_rows (o ∷ os) = order_row o ∷ order_rows os
 
-unfoldable card_rows : List Component → List Row → List Row
+unfoldable card_rows : List Component → List (Option Row) → List (Option Row)
 card_rows [] rs = rs
-card_rows (c ∷ cs) rs = Card c ∷ card_rows cs rs
+card_rows (c ∷ cs) rs = Some (Card c) ∷ card_rows cs rs
 
-unfoldable content_rows : Content → List Row
-content_rows v = Retry v.max_retry ∷ card_rows v.cards (order_rows v.orders)
+unfoldable content_rows : Content → List (Option Row)
+content_rows v = Some (Retry v.max_retry) ∷ card_rows v.cards (order_rows v.orders)
 
 -- Their text is the sheet's.
 order-text : (o : Order) → row_text (order_row o) ≡ order_line o
@@ -146,7 +147,7 @@ unfolding rows_text order_rows order_lines
 orders-text [] = refl
 orders-text (o ∷ os) = let a = order-text o in let b = orders-text os in (λ j. line (a j) ++ b j)
 
-cards-text : (cs : List Component) (rs : List Row) → rows_text (card_rows cs rs) ≡ card_lines cs ++ rows_text rs
+cards-text : (cs : List Component) (rs : List (Option Row)) → rows_text (card_rows cs rs) ≡ card_lines cs ++ rows_text rs
 unfolding rows_text card_rows card_lines
 cards-text [] rs = refl
 cards-text (c ∷ cs) rs = ap (λ (x : List ℕ). line (card_line c) ++ x) (cards-text cs rs) ∙ sym (append_assoc (line (card_line c)) (card_lines cs) (rows_text rs))
@@ -165,7 +166,7 @@ orders-lines [] h = tt
 orders-lines (Begins e ∷ os) h = ((refl, h.0), orders-lines os h.1)
 orders-lines (Answers a ∷ os) h = ((refl, h.0), orders-lines os h.1)
 
-cards-lines : (cs : List Component) (rs : List Row) → CardsInRange cs → AreLines rs → AreLines (card_rows cs rs)
+cards-lines : (cs : List Component) (rs : List (Option Row)) → CardsInRange cs → AreLines rs → AreLines (card_rows cs rs)
 unfolding card_rows
 cards-lines [] rs h g = g
 cards-lines (c ∷ cs) rs h g = ((refl, h.0), cards-lines cs rs h.1 g)
@@ -180,7 +181,7 @@ orders-range [] h = tt
 orders-range (Begins e ∷ os) h = (h.0.1, orders-range os h.1)
 orders-range (Answers a ∷ os) h = (h.0.1, orders-range os h.1)
 
-cards-range : (cs : List Component) (rs : List Row) → AreLines (card_rows cs rs) → CardsInRange cs × AreLines rs
+cards-range : (cs : List Component) (rs : List (Option Row)) → AreLines (card_rows cs rs) → CardsInRange cs × AreLines rs
 unfolding card_rows
 cards-range [] rs h = (tt, h)
 cards-range (c ∷ cs) rs h = let g = cards-range cs rs h.1 in ((h.0.1, g.0), g.1)
@@ -198,7 +199,7 @@ retry-orders n [] = refl
 retry-orders n (Begins e ∷ os) = retry-orders n os
 retry-orders n (Answers a ∷ os) = retry-orders n os
 
-retry-cards : (n : ℕ) (cs : List Component) (rs : List Row) → retry_from n (card_rows cs rs) ≡ retry_from n rs
+retry-cards : (n : ℕ) (cs : List Component) (rs : List (Option Row)) → retry_from n (card_rows cs rs) ≡ retry_from n rs
 unfolding retry_from card_rows
 retry-cards n [] rs = refl
 retry-cards n (c ∷ cs) rs = retry-cards n cs rs
@@ -209,7 +210,7 @@ cards-orders [] = refl
 cards-orders (Begins e ∷ os) = cards-orders os
 cards-orders (Answers a ∷ os) = cards-orders os
 
-cards-cards : (cs : List Component) (rs : List Row) → cards_of rs ≡ [] → cards_of (card_rows cs rs) ≡ cs
+cards-cards : (cs : List Component) (rs : List (Option Row)) → cards_of rs ≡ [] → cards_of (card_rows cs rs) ≡ cs
 unfolding cards_of card_rows
 cards-cards [] rs e = e
 cards-cards (c ∷ cs) rs e = ap (λ (x : List Component). c ∷ x) (cards-cards cs rs e)
@@ -220,7 +221,7 @@ orders-orders [] = refl
 orders-orders (Begins e ∷ os) = ap (λ (x : List Order). Begins e ∷ x) (orders-orders os)
 orders-orders (Answers a ∷ os) = ap (λ (x : List Order). Answers a ∷ x) (orders-orders os)
 
-orders-cards : (cs : List Component) (rs : List Row) → orders_of (card_rows cs rs) ≡ orders_of rs
+orders-cards : (cs : List Component) (rs : List (Option Row)) → orders_of (card_rows cs rs) ≡ orders_of rs
 unfolding orders_of card_rows
 orders-cards [] rs = refl
 orders-cards (c ∷ cs) rs = orders-cards cs rs
@@ -252,44 +253,44 @@ content-said s v e =
     (λ j. record { max_retry = a j; cards = b j; orders = c j })
 
 -- Rows of which none is bad are those of something.
-script-rows : (n : ℕ) (rs : List Row) → 0 < n → bad_from Script n rs ≡ 0 → (os : List Order) × (rs ≡ order_rows os)
+script-rows : (n : ℕ) (rs : List (Option Row)) → 0 < n → bad_from Script n rs ≡ 0 → (os : List Order) × (rs ≡ order_rows os)
 unfolding bad_from order_rows
 script-rows n [] h e = ([], refl)
-script-rows n (Retry k ∷ rs) h e = absurd (omega arith)
-script-rows n (Card c ∷ rs) h e = absurd (omega arith)
-script-rows n (Begin x ∷ rs) h e =
+script-rows n (Some (Retry k) ∷ rs) h e = absurd (omega arith)
+script-rows n (Some (Card c) ∷ rs) h e = absurd (omega arith)
+script-rows n (Some (Begin x) ∷ rs) h e =
     let t = script-rows (suc n) rs (omega arith) e in
-    (Begins x ∷ t.0, ap (λ (y : List Row). Begin x ∷ y) t.1)
-script-rows n (Answer a ∷ rs) h e =
+    (Begins x ∷ t.0, ap (λ (y : List (Option Row)). Some (Begin x) ∷ y) t.1)
+script-rows n (Some (Answer a) ∷ rs) h e =
     let t = script-rows (suc n) rs (omega arith) e in
-    (Answers a ∷ t.0, ap (λ (y : List Row). Answer a ∷ y) t.1)
-script-rows n (Bad ∷ rs) h e = absurd (omega arith)
+    (Answers a ∷ t.0, ap (λ (y : List (Option Row)). Some (Answer a) ∷ y) t.1)
+script-rows n (None ∷ rs) h e = absurd (omega arith)
 
-cards-rows : (n : ℕ) (rs : List Row) → 0 < n → bad_from Cards n rs ≡ 0 → (cs : List Component) × (os : List Order) × (rs ≡ card_rows cs (order_rows os))
+cards-rows : (n : ℕ) (rs : List (Option Row)) → 0 < n → bad_from Cards n rs ≡ 0 → (cs : List Component) × (os : List Order) × (rs ≡ card_rows cs (order_rows os))
 unfolding bad_from card_rows order_rows
 cards-rows n [] h e = ([], [], refl)
-cards-rows n (Retry k ∷ rs) h e = absurd (omega arith)
-cards-rows n (Card c ∷ rs) h e =
+cards-rows n (Some (Retry k) ∷ rs) h e = absurd (omega arith)
+cards-rows n (Some (Card c) ∷ rs) h e =
     let t = cards-rows (suc n) rs (omega arith) e in
-    (c ∷ t.0, t.1, ap (λ (y : List Row). Card c ∷ y) t.2)
-cards-rows n (Begin x ∷ rs) h e =
+    (c ∷ t.0, t.1, ap (λ (y : List (Option Row)). Some (Card c) ∷ y) t.2)
+cards-rows n (Some (Begin x) ∷ rs) h e =
     let t = script-rows (suc n) rs (omega arith) e in
-    ([], Begins x ∷ t.0, ap (λ (y : List Row). Begin x ∷ y) t.1)
-cards-rows n (Answer a ∷ rs) h e =
+    ([], Begins x ∷ t.0, ap (λ (y : List (Option Row)). Some (Begin x) ∷ y) t.1)
+cards-rows n (Some (Answer a) ∷ rs) h e =
     let t = script-rows (suc n) rs (omega arith) e in
-    ([], Answers a ∷ t.0, ap (λ (y : List Row). Answer a ∷ y) t.1)
-cards-rows n (Bad ∷ rs) h e = absurd (omega arith)
+    ([], Answers a ∷ t.0, ap (λ (y : List (Option Row)). Some (Answer a) ∷ y) t.1)
+cards-rows n (None ∷ rs) h e = absurd (omega arith)
 
-content-rows : (n : ℕ) (rs : List Row) → 0 < n → bad_from Opening n rs ≡ 0 → (v : Content) × (rs ≡ content_rows v)
+content-rows : (n : ℕ) (rs : List (Option Row)) → 0 < n → bad_from Opening n rs ≡ 0 → (v : Content) × (rs ≡ content_rows v)
 unfolding bad_from content_rows
 content-rows n [] h e = absurd (omega arith)
-content-rows n (Retry k ∷ rs) h e =
+content-rows n (Some (Retry k) ∷ rs) h e =
     let t = cards-rows (suc n) rs (omega arith) e in
-    (record { max_retry = k; cards = t.0; orders = t.1 }, ap (λ (y : List Row). Retry k ∷ y) t.2)
-content-rows n (Card c ∷ rs) h e = absurd (omega arith)
-content-rows n (Begin x ∷ rs) h e = absurd (omega arith)
-content-rows n (Answer a ∷ rs) h e = absurd (omega arith)
-content-rows n (Bad ∷ rs) h e = absurd (omega arith)
+    (record { max_retry = k; cards = t.0; orders = t.1 }, ap (λ (y : List (Option Row)). Some (Retry k) ∷ y) t.2)
+content-rows n (Some (Card c) ∷ rs) h e = absurd (omega arith)
+content-rows n (Some (Begin x) ∷ rs) h e = absurd (omega arith)
+content-rows n (Some (Answer a) ∷ rs) h e = absurd (omega arith)
+content-rows n (None ∷ rs) h e = absurd (omega arith)
 
 -- Reading inverts printing.
 pub read-sheet : (v : Content) → InRange v → (bad_line (sheet_text v) ≡ 0) × (content_of (sheet_text v) ≡ v)

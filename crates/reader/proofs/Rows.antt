@@ -1,4 +1,5 @@
 -- The rows of a text, from its first line on: a line is cut at the first byte 10, and a text with no such byte is one bad line.
+use Rattle.std.specs.Prelude.{Option, None}
 use mathlib.Core.Path.{◌≡◌, refl, sym, ap, ◌∙◌}
 use mathlib.Core.Bool.{Bool, true, false}
 use mathlib.Core.List.{List, [], ◌∷◌, ◌++◌, append_assoc}
@@ -14,7 +15,6 @@ use Rattle.fields.specs.Fields.{place_of}
 use Rattle.fields.proofs.Scan.{place-le}
 use Rattle.fields.proofs.Cut.{Without, place_at, before_at, after-at}
 use Rattle.lines.specs.declared.Row.{Row}
-use Rattle.lines.specs.declared.Row.TheVariants.{Bad}
 use Rattle.lines.specs.Read.{row_of}
 use Rattle.reader.specs.Read.{joined, pieces, rows_of, rows_in, Reads, after_line}
 
@@ -70,11 +70,11 @@ rows-line l r u =
     ap rows_in (append_assoc l (10 ∷ []) r) ∙ rows_cut m h ∙ (λ j. row_of (before j) ∷ rows_in (after j))
 
 -- A line that is not ended.
-pub rows-open : (m : List ℕ) → place_of 10 m ≡ length m → 0 < length m → rows_in m ≡ Bad ∷ []
+pub rows-open : (m : List ℕ) → place_of 10 m ≡ length m → 0 < length m → rows_in m ≡ None ∷ []
 unfolding rows_in rows_of
 rows-open m e h =
     let z : length m ≡ 0 → ⊥ = λ q. omega arith in
-    ap rows_of (pieces-uncut m e) ∙ ap (λ (b : Bool). pick b [] (Bad ∷ [])) (ne_eqb (length m) 0 z)
+    ap rows_of (pieces-uncut m e) ∙ ap (λ (b : Bool). pick b [] (None ∷ [])) (ne_eqb (length m) 0 z)
 
 -- No line.
 pub rows_none : rows_in [] ≡ []
@@ -95,7 +95,7 @@ module _ (s : List ℕ) (at : ℕ) (h : at < length s) (m : List ℕ) (w : m ≡
   size : length m ≡ length (drop at s)
   size = ap length w
 
-  pub reads-line : (n ≡ length m → ⊥) → (r : Row) → r ≡ row_of (take n m) → Reads s at (record { row = r; after = at + n + 1 })
+  pub reads-line : (n ≡ length m → ⊥) → (r : Option Row) → r ≡ row_of (take n m) → Reads s at (record { row = r; after = at + n + 1 })
   unfolding after_line
   reads-line f r p =
       let g : n < length m = omega (arith, place-le 10 m) in
@@ -105,19 +105,19 @@ module _ (s : List ℕ) (at : ℕ) (h : at < length s) (m : List ℕ) (w : m ≡
             ap rows_in (sym w) ∙ rows_cut m (omega arith)
             ∙ ap (λ (i : ℕ). row_of (take i m) ∷ rows_in (drop (suc i) m)) (sym e)
             ∙ ap (λ (x : List ℕ). row_of (take n m) ∷ rows_in x) (ap (drop (suc n)) w ∙ drop-drop (suc n) at s ∙ ap (λ (i : ℕ). drop i s) on)
-            ∙ ap (λ (x : Row). x ∷ rows_in (drop (at + n + 1) s)) (sym p);
+            ∙ ap (λ (x : Option Row). x ∷ rows_in (drop (at + n + 1) s)) (sym p);
         place = sym (ap (λ (b : Bool). pick b (at + place_of 10 (drop at s) + 1) (length s)) (lt-ltb (place_of 10 (drop at s)) (length (drop at s)) (omega (arith, g, here, size))) ∙ ap (λ (i : ℕ). at + i + 1) (sym here));
         onward = omega arith;
         within = omega (arith, long);
       }
 
-  pub reads-open : n ≡ length m → Reads s at (record { row = Bad; after = length s })
+  pub reads-open : n ≡ length m → Reads s at (record { row = None; after = length s })
   unfolding after_line
   reads-open f =
       record {
         row =
             ap rows_in (sym w) ∙ rows-open m (omega arith) (omega (arith, long))
-            ∙ ap (λ (x : List Row). Bad ∷ x) (sym (rows-past s (length s) (omega arith)));
+            ∙ ap (λ (x : List (Option Row)). None ∷ x) (sym (rows-past s (length s) (omega arith)));
         place = sym (ap (λ (b : Bool). pick b (at + place_of 10 (drop at s) + 1) (length s)) (le-ltb (place_of 10 (drop at s)) (length (drop at s)) (omega (arith, f, here, size))));
         onward = h;
         within = omega arith;

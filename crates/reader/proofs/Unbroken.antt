@@ -1,10 +1,10 @@
 -- No line holds a byte 10: names, decimals, `-` and tabs are other bytes.
+use Rattle.std.specs.Prelude.{Option, None, Some}
+use Rattle.model.specs.declared.ComponentId.{ComponentId}
 use mathlib.Core.Path.{refl, sym, subst}
 use mathlib.Core.List.{List, ◌∷◌}
 use Prim.Native.Nat.{ℕ}
 use native.Mathlib.Omega.{arith}
-use Rattle.model.specs.declared.OptionId.{OptionId}
-use Rattle.model.specs.declared.OptionId.TheVariants.{None, Some}
 use Rattle.model.specs.declared.ComponentKind.{ComponentKind}
 use Rattle.model.specs.declared.ComponentKind.TheVariants.{Active, Passive}
 use Rattle.model.specs.declared.FailurePolicy.{FailurePolicy}
@@ -24,7 +24,7 @@ use Rattle.fields.specs.Fields.{place_of}
 use Rattle.fields.proofs.Cut.{Without, without_more, without-decimal, without-both}
 use Rattle.events.specs.Grammar.{power_text, event_text}
 use Rattle.lines.specs.declared.Row.{Row}
-use Rattle.lines.specs.declared.Row.TheVariants.{Retry, Card, Begin, Answer, Bad}
+use Rattle.lines.specs.declared.Row.TheVariants.{Retry, Card, Begin, Answer}
 use Rattle.lines.specs.Grammar.{kind_text, policy_text, retry_line, card_line, begin_line, answer_line, IsLine}
 
 -- A record, so that the two texts of `_then_` are found from what is known of them.
@@ -41,7 +41,7 @@ infixr 60 ◌then◌
 number : (n : ℕ) → Unbroken (decimal n)
 number n = record { none = without-decimal 10 n (omega arith) }
 
-dependency : (d : OptionId) → Unbroken (option_text d)
+dependency : (d : Option ComponentId) → Unbroken (option_text d)
 unfolding place_of
 dependency None = name _ refl
 dependency (Some i) = number i.0
@@ -111,9 +111,9 @@ answer Done = name _ refl
 answer Failed = name _ refl
 answer (Then e) = name (bytes "R") refl then name (bytes "then") refl then event e
 
-pub unbroken : (l : List ℕ) (r : Row) → IsLine l r → Without 10 l
-unbroken l (Retry n) h = subst (Without 10) (sym h.0) (retry n).none
-unbroken l (Card c) h = subst (Without 10) (sym h.0) (card c).none
-unbroken l (Begin e) h = subst (Without 10) (sym h.0) (begin e).none
-unbroken l (Answer a) h = subst (Without 10) (sym h.0) (answer a).none
-unbroken l Bad h = absurd h
+pub unbroken : (l : List ℕ) (r : Option Row) → IsLine l r → Without 10 l
+unbroken l (Some (Retry n)) h = subst (Without 10) (sym h.0) (retry n).none
+unbroken l (Some (Card c)) h = subst (Without 10) (sym h.0) (card c).none
+unbroken l (Some (Begin e)) h = subst (Without 10) (sym h.0) (begin e).none
+unbroken l (Some (Answer a)) h = subst (Without 10) (sym h.0) (answer a).none
+unbroken l None h = absurd h

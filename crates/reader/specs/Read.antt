@@ -1,17 +1,18 @@
 -- Section 5 and question 1, from text to value: the lines of a sheet, the first bad one, and what the others say.
-use Rattle.std.specs.Prelude.{◌≡◌, Bool, true, false, List, [], ◌∷◌, ℕ, suc, ◌+◌, ◌<◌, ◌≤◌, eqb, ltb, length, drop}
+use Rattle.std.specs.Prelude.{◌≡◌, Bool, true, false, List, [], ◌∷◌, ℕ, suc, ◌+◌, ◌<◌, ◌≤◌, eqb, ltb, length, drop, Option, None, Some, Result, Ok, Err}
 use Rattle.model.specs.Vocabulary.{pick}
 use Rattle.model.specs.declared.Component.{Component}
 use Rattle.components.specs.declared.ComponentList.{ComponentList}
 use Rattle.components.specs.Chain.{no_entries, pushed}
 use Rattle.fields.specs.Fields.{place_of}
 use Rattle.lines.specs.declared.Row.{Row}
-use Rattle.lines.specs.declared.Row.TheVariants.{Retry, Card, Begin, Answer, Bad}
+use Rattle.lines.specs.declared.Row.TheVariants.{Retry, Card, Begin, Answer}
 use Rattle.lines.specs.Read.{row_of}
 use Rattle.reader.specs.declared.Part.{Part}
 use Rattle.reader.specs.declared.Part.TheVariants.{Opening, Cards, Script, Wrong}
 use Rattle.reader.specs.declared.Next.{Next}
 use Rattle.reader.specs.declared.Sheet.{Sheet}
+use Rattle.reader.specs.declared.BadLine.{BadLine}
 use Rattle.reader.specs.Grammar.{Order, Begins, Answers, Content}
 
 -- The pieces of a text between bytes 10: one more than there are such bytes.
@@ -25,31 +26,31 @@ pieces (x ∷ l) = pick (eqb x 10) ([] ∷ pieces l) (joined x (pieces l))
 
 -- What each line says. Every piece but the last is a line that is ended. The last one is empty, or it is a line that is not
 -- ended, and so a bad one.
-unfoldable pub rows_of : List (List ℕ) → List Row
+unfoldable pub rows_of : List (List ℕ) → List (Option Row)
 rows_of [] = []
-rows_of (p ∷ []) = pick (eqb (length p) 0) [] (Bad ∷ [])
+rows_of (p ∷ []) = pick (eqb (length p) 0) [] (None ∷ [])
 rows_of (p ∷ q ∷ ps) = row_of p ∷ rows_of (q ∷ ps)
 
-unfoldable pub rows_in : List ℕ → List Row
+unfoldable pub rows_in : List ℕ → List (Option Row)
 rows_in s = rows_of (pieces s)
 
 -- The B line, then C lines, then E and R lines.
-abbrev pub part_after : Part → Row → Part
-part_after Opening (Retry n) = Cards
-part_after Opening (Card c) = Wrong
-part_after Opening (Begin e) = Wrong
-part_after Opening (Answer a) = Wrong
-part_after Opening Bad = Wrong
-part_after Cards (Retry n) = Wrong
-part_after Cards (Card c) = Cards
-part_after Cards (Begin e) = Script
-part_after Cards (Answer a) = Script
-part_after Cards Bad = Wrong
-part_after Script (Retry n) = Wrong
-part_after Script (Card c) = Wrong
-part_after Script (Begin e) = Script
-part_after Script (Answer a) = Script
-part_after Script Bad = Wrong
+abbrev pub part_after : Part → Option Row → Part
+part_after Opening (Some (Retry n)) = Cards
+part_after Opening (Some (Card c)) = Wrong
+part_after Opening (Some (Begin e)) = Wrong
+part_after Opening (Some (Answer a)) = Wrong
+part_after Opening None = Wrong
+part_after Cards (Some (Retry n)) = Wrong
+part_after Cards (Some (Card c)) = Cards
+part_after Cards (Some (Begin e)) = Script
+part_after Cards (Some (Answer a)) = Script
+part_after Cards None = Wrong
+part_after Script (Some (Retry n)) = Wrong
+part_after Script (Some (Card c)) = Wrong
+part_after Script (Some (Begin e)) = Script
+part_after Script (Some (Answer a)) = Script
+part_after Script None = Wrong
 part_after Wrong r = Wrong
 
 abbrev pub is_wrong : Part → Bool
@@ -65,7 +66,7 @@ is_opening Script = false
 is_opening Wrong = false
 
 -- The first bad line of the rows from line n on, or 0. Where the B line is missing it is the line after the last.
-unfoldable pub bad_from : Part → ℕ → List Row → ℕ
+unfoldable pub bad_from : Part → ℕ → List (Option Row) → ℕ
 bad_from part n [] = pick (is_opening part) n 0
 bad_from part n (r ∷ rs) = pick (is_wrong (part_after part r)) n (bad_from (part_after part r) (suc n) rs)
 
@@ -73,23 +74,15 @@ bad_from part n (r ∷ rs) = pick (is_wrong (part_after part r)) n (bad_from (pa
 unfoldable pub bad_line : List ℕ → ℕ
 bad_line s = bad_from Opening 1 (rows_in s)
 
--- The rows before the first bad line: all of them, where there is none.
-unfoldable pub good_from : Part → List Row → List Row
-good_from part [] = []
-good_from part (r ∷ rs) = pick (is_wrong (part_after part r)) [] (r ∷ good_from (part_after part r) rs)
-
-unfoldable pub good_in : List ℕ → List Row
-good_in s = good_from Opening (rows_in s)
-
 -- max_retry: the number of the B line.
-abbrev pub retry_after : ℕ → Row → ℕ
-retry_after n (Retry k) = k
-retry_after n (Card c) = n
-retry_after n (Begin e) = n
-retry_after n (Answer a) = n
-retry_after n Bad = n
+abbrev pub retry_after : ℕ → Option Row → ℕ
+retry_after n (Some (Retry k)) = k
+retry_after n (Some (Card c)) = n
+retry_after n (Some (Begin e)) = n
+retry_after n (Some (Answer a)) = n
+retry_after n None = n
 
-unfoldable pub retry_from : ℕ → List Row → ℕ
+unfoldable pub retry_from : ℕ → List (Option Row) → ℕ
 retry_from n [] = n
 retry_from n (r ∷ rs) = retry_from (retry_after n r) rs
 
@@ -97,22 +90,22 @@ unfoldable pub retry_in : List ℕ → ℕ
 retry_in s = retry_from 0 (rows_in s)
 
 -- A C line.
-abbrev pub is_card : Row → Bool
-is_card (Retry n) = false
-is_card (Card c) = true
-is_card (Begin e) = false
-is_card (Answer a) = false
-is_card Bad = false
+abbrev pub is_card : Option Row → Bool
+is_card (Some (Retry n)) = false
+is_card (Some (Card c)) = true
+is_card (Some (Begin e)) = false
+is_card (Some (Answer a)) = false
+is_card None = false
 
 -- The components of the C lines.
-abbrev pub card_before : Row → List Component → List Component
-card_before (Retry n) cs = cs
-card_before (Card c) cs = c ∷ cs
-card_before (Begin e) cs = cs
-card_before (Answer a) cs = cs
-card_before Bad cs = cs
+abbrev pub card_before : Option Row → List Component → List Component
+card_before (Some (Retry n)) cs = cs
+card_before (Some (Card c)) cs = c ∷ cs
+card_before (Some (Begin e)) cs = cs
+card_before (Some (Answer a)) cs = cs
+card_before None cs = cs
 
-unfoldable pub cards_of : List Row → List Component
+unfoldable pub cards_of : List (Option Row) → List Component
 cards_of [] = []
 cards_of (r ∷ rs) = card_before r (cards_of rs)
 
@@ -120,14 +113,14 @@ unfoldable pub cards_in : List ℕ → List Component
 cards_in s = cards_of (rows_in s)
 
 -- The events and replies of the E and R lines.
-abbrev pub order_before : Row → List Order → List Order
-order_before (Retry n) os = os
-order_before (Card c) os = os
-order_before (Begin e) os = Begins e ∷ os
-order_before (Answer a) os = Answers a ∷ os
-order_before Bad os = os
+abbrev pub order_before : Option Row → List Order → List Order
+order_before (Some (Retry n)) os = os
+order_before (Some (Card c)) os = os
+order_before (Some (Begin e)) os = Begins e ∷ os
+order_before (Some (Answer a)) os = Answers a ∷ os
+order_before None os = os
 
-unfoldable pub orders_of : List Row → List Order
+unfoldable pub orders_of : List (Option Row) → List Order
 orders_of [] = []
 orders_of (r ∷ rs) = order_before r (orders_of rs)
 
@@ -151,8 +144,18 @@ pub record Reads (s : List ℕ) (at : ℕ) (r : Next) : Type 0 where
   pub onward : at < r.after
   pub within : r.after ≤ length s
 
--- The first bad line, and of the lines before it max_retry and the components; of more than 255 the first 255 are kept.
+-- max_retry and the components of a sheet in which no line is bad; of more than 255 the first 255 are kept.
 pub record Whole (s : List ℕ) (r : Sheet) : Type 0 where
-  pub bad : r.bad ≡ bad_line s
-  pub retry : r.max_retry ≡ retry_from 0 (good_in s)
-  pub list : r.list ≡ pushed_all no_entries (cards_of (good_in s))
+  pub good : bad_line s ≡ 0
+  pub retry : r.max_retry ≡ retry_in s
+  pub list : r.list ≡ pushed_all no_entries (cards_in s)
+
+-- The line that is refused is the first bad one.
+pub record Bad (s : List ℕ) (b : BadLine) : Type 0 where
+  pub line : b.0 ≡ bad_line s
+  pub some : 0 < b.0
+
+-- What the sheet says, or its first bad line.
+abbrev pub ReadAs : List ℕ → Result Sheet BadLine → Type 0
+ReadAs s (Ok r) = Whole s r
+ReadAs s (Err b) = Bad s b

@@ -1,15 +1,15 @@
 // Whole sheets: line by line from the bytes, the first bad line, max_retry and the components.
 #![tactic(auto)]
 
-ghost use Rattle.std.specs.Prelude.{◌≡◌, ◌<◌, length, []};
-ghost use Rattle.components.specs.Chain.{pushed};
-ghost use Rattle.reader.specs.Read.{part_after, is_wrong, is_opening, retry_after, is_card, card_before, pushed_all, Reads, Whole};
+ghost use Rattle.std.specs.Prelude.{◌≡◌, ◌<◌, length};
+ghost use Rattle.reader.specs.Read.{part_after, Reads, ReadAs};
 
 use components::ComponentList;
 use lines::Row;
 
-// Which lines may come: the B line, then C lines, then E and R lines. After a bad line none may.
-#[derive(Clone, Copy)]
+// Which lines may come: the B line, then C lines, then E and R lines. After a bad line none may: `Wrong` is a state too, and an
+// Option would only name it otherwise.
+#[derive(Clone, Copy, Debug, PartialEq, Eq)]
 pub enum Part {
     Opening,
     Cards,
@@ -20,17 +20,20 @@ pub enum Part {
 // What a line says, and the place of the line after it.
 #[derive(Clone, Copy)]
 pub struct Next {
-    pub row: Row,
+    pub row: Option<Row>,
     pub after: usize,
 }
 
-// The first bad line from 1, or 0; and what the B line and the C lines before it say.
+// What the B line and the C lines say.
 #[derive(Clone, Copy)]
 pub struct Sheet {
-    pub bad: usize,
     pub max_retry: u8,
     pub list: ComponentList,
 }
+
+// The first line that is bad, counted from 1.
+#[derive(Clone, Copy, Debug, PartialEq, Eq)]
+pub struct BadLine(pub usize);
 
 // The line at a place of the sheet. A line that is not ended is bad.
 pub fn next_line(sheet: &[u8], at: usize) -> Next
@@ -41,7 +44,7 @@ pub fn next_line(sheet: &[u8], at: usize) -> Next
     let n = fields::place(m, 10);
     if n == m.len() {
         return Next {
-            row: Row::Bad,
+            row: None,
             after: sheet.len(),
         };
     }
@@ -51,130 +54,43 @@ pub fn next_line(sheet: &[u8], at: usize) -> Next
     }
 }
 
-fn part_after(part: Part, row: Row) -> Part
+fn part_after(part: Part, row: Option<Row>) -> Part
     ensures { result ≡ part_after part row }
 {
-    match part {
-        Part::Opening => match row {
-            Row::Retry(_) => Part::Cards,
-            Row::Card(_) => Part::Wrong,
-            Row::Begin(_) => Part::Wrong,
-            Row::Answer(_) => Part::Wrong,
-            Row::Bad => Part::Wrong,
-        },
-        Part::Cards => match row {
-            Row::Retry(_) => Part::Wrong,
-            Row::Card(_) => Part::Cards,
-            Row::Begin(_) => Part::Script,
-            Row::Answer(_) => Part::Script,
-            Row::Bad => Part::Wrong,
-        },
-        Part::Script => match row {
-            Row::Retry(_) => Part::Wrong,
-            Row::Card(_) => Part::Wrong,
-            Row::Begin(_) => Part::Script,
-            Row::Answer(_) => Part::Script,
-            Row::Bad => Part::Wrong,
-        },
-        Part::Wrong => Part::Wrong,
-    }
-}
-
-fn is_wrong(part: Part) -> bool
-    ensures { result ≡ is_wrong part }
-{
-    match part {
-        Part::Opening => false,
-        Part::Cards => false,
-        Part::Script => false,
-        Part::Wrong => true,
-    }
-}
-
-fn is_opening(part: Part) -> bool
-    ensures { result ≡ is_opening part }
-{
-    match part {
-        Part::Opening => true,
-        Part::Cards => false,
-        Part::Script => false,
-        Part::Wrong => false,
-    }
-}
-
-fn retry_after(max_retry: u8, row: Row) -> u8
-    ensures { result ≡ retry_after max_retry row }
-{
-    match row {
-        Row::Retry(n) => n,
-        Row::Card(_) => max_retry,
-        Row::Begin(_) => max_retry,
-        Row::Answer(_) => max_retry,
-        Row::Bad => max_retry,
-    }
-}
-
-fn is_card(row: Row) -> bool
-    ensures { result ≡ is_card row }
-{
-    match row {
-        Row::Retry(_) => false,
-        Row::Card(_) => true,
-        Row::Begin(_) => false,
-        Row::Answer(_) => false,
-        Row::Bad => false,
-    }
-}
-
-fn list_after(list: ComponentList, row: Row) -> ComponentList
-    ensures { result ≡ pushed_all list (card_before row []) }
-{
-    match row {
-        Row::Retry(_) => list,
-        Row::Card(c) => list.push(c),
-        Row::Begin(_) => list,
-        Row::Answer(_) => list,
-        Row::Bad => list,
+    match (part, row) {
+        (Part::Opening, Some(Row::Retry(_))) => Part::Cards,
+        (Part::Cards, Some(Row::Card(_))) => Part::Cards,
+        (Part::Cards | Part::Script, Some(Row::Begin(_) | Row::Answer(_))) => Part::Script,
+        _ => Part::Wrong,
     }
 }
 
 // Question 1 is put to every line, and the B and C lines are kept. Other lines leave the list alone, which is long to copy.
-pub fn read_sheet(sheet: &[u8]) -> Sheet
-    ensures { Whole sheet.now result }
+pub fn read_sheet(sheet: &[u8]) -> Result<Sheet, BadLine>
+    ensures { ReadAs sheet.now result }
 {
-    let mut at: usize = 0;
-    let mut line: usize = 1;
+    let mut at = 0;
+    let mut line = 1;
     let mut part = Part::Opening;
-    let mut max_retry: u8 = 0;
+    let mut max_retry = 0;
     let mut list = ComponentList::new();
+    // From place to place: a step is as long as its line, so that no range counts it. The line's number goes along.
     while at < sheet.len() {
         let next = next_line(sheet, at);
-        let row = next.row;
-        part = part_after(part, row);
-        if is_wrong(part) {
-            return Sheet {
-                bad: line,
-                max_retry: max_retry,
-                list: list,
-            };
+        part = part_after(part, next.row);
+        if part == Part::Wrong {
+            return Err(BadLine(line));
         }
-        max_retry = retry_after(max_retry, row);
-        if is_card(row) {
-            list = list_after(list, row);
+        match next.row {
+            Some(Row::Retry(n)) => max_retry = n,
+            Some(Row::Card(c)) => list = list.push(c),
+            _ => {}
         }
         at = next.after;
-        line = line + 1;
+        line += 1;
     }
-    if is_opening(part) {
-        return Sheet {
-            bad: line,
-            max_retry: max_retry,
-            list: list,
-        };
+    if part == Part::Opening {
+        return Err(BadLine(line));
     }
-    Sheet {
-        bad: 0,
-        max_retry: max_retry,
-        list: list,
-    }
+    Ok(Sheet { max_retry, list })
 }

@@ -13,21 +13,16 @@ ghost use Rattle.recovery.specs.Cases.{recovering, restored_in, unavailable_in};
 
 use chain::Chain;
 use machine::Work;
-use model::{ComponentId, Effect, Event, OptionId, State};
+use model::{ComponentId, Effect, Event, State};
 use store::Status;
 
 // The component in recovery.
-pub fn recovers_in(state: State) -> OptionId
+pub fn recovers_in(state: State) -> Option<ComponentId>
     ensures { result ≡ recovering state }
 {
     match state {
-        State::PowerOnReset => OptionId::None,
-        State::PreSupervision => OptionId::None,
-        State::AwaitingReady(_) => OptionId::None,
-        State::Ready => OptionId::None,
-        State::Updating => OptionId::None,
-        State::Recovering(f) => OptionId::Some(f),
-        State::Locked => OptionId::None,
+        State::Recovering(f) => Some(f),
+        _ => None,
     }
 }
 
@@ -36,10 +31,9 @@ fn set_retry(chain: Chain, w: Work, id: ComponentId, p: usize, retry: u8) -> Wor
     ensures { Does (size chain) w (λ c. stay (retry_at (entries chain) id retry c)) result }
 {
     let n = chain.count();
-    let rot = w.rot;
-    let s = machine::status_at(rot, n, p);
+    let s = machine::status_at(w.rot, n, p);
     let counted = Status {
-        retry: retry,
+        retry,
         awaiting_boot: s.awaiting_boot,
         released: s.released,
     };
@@ -60,8 +54,7 @@ fn exhaust_recovery(chain: Chain, w: Work, id: ComponentId, p: usize) -> Work
     requires { Placed chain w id p }
     ensures { Does (size chain) w (exhausted (entries chain) id) result }
 {
-    let policy = chain.policy_at(p);
-    if corruption::gates_failed(policy) {
+    if corruption::gates_failed(chain.policy_at(p)) {
         let v = corruption::gate_by_policy(chain, w, p);
         return start_over(chain, v, id, p);
     }
@@ -73,37 +66,31 @@ fn exhaust_recovery(chain: Chain, w: Work, id: ComponentId, p: usize) -> Work
 fn bump_retry(retry: u8) -> u8
     ensures { result ≡ bump retry }
 {
-    if retry < 255 { retry + 1 } else { 255 }
+    retry.saturating_add(1)
 }
 
+// Below the limit the component is tried again.
 pub fn restored(
     chain: Chain,
     max_retry: u8,
     w: Work,
     id: ComponentId,
     p: usize,
-    target: OptionId,
+    target: Option<ComponentId>,
 ) -> Work
     requires { Placed chain w id p }
     ensures { Does (size chain) w (restored_in (entries chain) max_retry id target) result }
 {
-    match target {
-        OptionId::None => w,
-        OptionId::Some(failed) => {
-            if id.0 != failed.0 {
-                return w;
-            }
-            let n = chain.count();
-            let rot = w.rot;
-            let s = machine::status_at(rot, n, p);
-            let retry = bump_retry(s.retry);
-            let v = set_retry(chain, w, id, p, retry);
-            if retry < max_retry {
-                return entry::enter_walk(chain, v);
-            }
-            exhaust_recovery(chain, v, id, p)
-        }
+    if target != Some(id) {
+        return w;
     }
+    let s = machine::status_at(w.rot, chain.count(), p);
+    let retry = bump_retry(s.retry);
+    let v = set_retry(chain, w, id, p, retry);
+    if retry < max_retry {
+        return entry::enter_walk(chain, v);
+    }
+    exhaust_recovery(chain, v, id, p)
 }
 
 pub fn recovery_unavailable(
@@ -111,18 +98,13 @@ pub fn recovery_unavailable(
     w: Work,
     id: ComponentId,
     p: usize,
-    target: OptionId,
+    target: Option<ComponentId>,
 ) -> Work
     requires { Placed chain w id p }
     ensures { Does (size chain) w (unavailable_in (entries chain) id target) result }
 {
-    match target {
-        OptionId::None => w,
-        OptionId::Some(failed) => {
-            if id.0 != failed.0 {
-                return w;
-            }
-            exhaust_recovery(chain, w, id, p)
-        }
+    if target != Some(id) {
+        return w;
     }
+    exhaust_recovery(chain, w, id, p)
 }

@@ -2,6 +2,7 @@
 -- of statuses, and a cursor within the chain or at its end.
 -- The rules are made of few parts, and each part is bounded by the weight of the statuses (Weight), which is at most
 -- 2 N. Each rule then has its bound from its parts, and the step has it of every rule.
+use Rattle.std.specs.Prelude.{Option, None, Some}
 use mathlib.Core.Path.{◌≡◌, refl, sym, ◌∙◌}
 use mathlib.Core.Bool.{Bool, true, false}
 use mathlib.Core.List.{List, [], ◌∷◌, map}
@@ -14,8 +15,6 @@ use Rattle.model.specs.Vocabulary.{named}
 use Rattle.components.specs.Chain.{position, same_id}
 use Rattle.model.specs.declared.ComponentId.{ComponentId}
 use Rattle.model.specs.declared.Component.{Component}
-use Rattle.model.specs.declared.OptionId.{OptionId}
-use Rattle.model.specs.declared.OptionId.TheVariants.{None, Some}
 use Rattle.model.specs.declared.PowerOnResult.{PowerOnResult}
 use Rattle.model.specs.declared.PowerOnResult.TheVariants.{Provisioned, Unprovisioned, SelfVerificationFailed}
 use Rattle.model.specs.declared.BootFailureKind.{BootFailureKind}
@@ -185,7 +184,7 @@ module _ (ch : List Component) (q : ℕ) where
       boots : (i : ComponentId) → Good (progress ch i c)
       boots i = stay-fits b (no_wait ch i c) (boot-sized i)
 
-      readies : (i : ComponentId) (o : OptionId) → Good (component_ready ch i o c)
+      readies : (i : ComponentId) (o : Option ComponentId) → Good (component_ready ch i o c)
       readies i None = boots i
       readies i (Some j) =
           pick_p Good (same_id j i)

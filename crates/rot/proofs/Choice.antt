@@ -1,6 +1,6 @@
 -- Choices by a state, a policy, a kind: what holds of every answer holds of the choice.
+use Rattle.std.specs.Prelude.{Option}
 use Rattle.model.specs.declared.ComponentId.{ComponentId}
-use Rattle.model.specs.declared.OptionId.{OptionId}
 use Rattle.model.specs.declared.FailurePolicy.{FailurePolicy}
 use Rattle.model.specs.declared.FailurePolicy.TheVariants.{Required, Isolable, Cascading}
 use Rattle.model.specs.declared.BootFailureKind.{BootFailureKind}
@@ -21,8 +21,8 @@ by_kind_p P TimedOut x y = x
 by_kind_p P DeviceRetriable x y = x
 by_kind_p P DeviceFatal x y = y
 
-pub by_state_p {ℓ ℓ'} : {A : Type ℓ} (P : A → Type ℓ') (s : State) {a b d e g : A} {c : OptionId → A} {f : ComponentId → A}
-    → P a → P b → ((o : OptionId) → P (c o)) → P d → P e → ((i : ComponentId) → P (f i)) → P g → P (by_state s a b c d e f g)
+pub by_state_p {ℓ ℓ'} : {A : Type ℓ} (P : A → Type ℓ') (s : State) {a b d e g : A} {c : Option ComponentId → A} {f : ComponentId → A}
+    → P a → P b → ((o : Option ComponentId) → P (c o)) → P d → P e → ((i : ComponentId) → P (f i)) → P g → P (by_state s a b c d e f g)
 by_state_p P PowerOnReset t u v w x y z = t
 by_state_p P PreSupervision t u v w x y z = u
 by_state_p P (AwaitingReady o) t u v w x y z = v o

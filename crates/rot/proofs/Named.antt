@@ -1,18 +1,17 @@
 -- The step by whom the event is about, and where nothing comes of the event.
+use Rattle.std.specs.Prelude.{Option, None, Some}
 use mathlib.Core.Path.{◌≡◌, refl, sym, ap, ◌∙◌}
 use mathlib.Core.Bool.{Bool, true, false}
 use mathlib.Core.List.{List}
 use Prim.Native.Nat.{ℕ, ◌<◌}
 use native.Mathlib.Omega.{arith}
-use lib.Dec.{eqb, leb, ltb}
+use lib.Dec.{eqb, ltb}
 use lib.ListN.{length}
-use borrow.Author.Tests.{lt-ltb, le-leb, lt-leb, ltb-true, ltb-false, eq-eqb, ne_eqb, eqb-true}
+use borrow.Author.Tests.{lt-ltb, ltb-true, eqb-true}
 use Rattle.model.specs.Vocabulary.{pick, named, id_of}
 use Rattle.components.specs.Chain.{position}
 use Rattle.model.specs.declared.Component.{Component}
 use Rattle.model.specs.declared.ComponentId.{ComponentId}
-use Rattle.model.specs.declared.OptionId.{OptionId}
-use Rattle.model.specs.declared.OptionId.TheVariants.{None, Some}
 use Rattle.model.specs.declared.State.{State}
 use Rattle.model.specs.declared.Event.{Event}
 use Rattle.table.specs.Table.{rule_no}
@@ -20,55 +19,23 @@ use Rattle.machine.specs.View.{Core, stay}
 use Rattle.numbered.specs.Numbered.{numbered, numbered_by}
 use Rattle.rot.specs.Step.{rule, in_chain, step_of}
 use Rattle.rot.specs.Whom.{whom}
-use Rattle.rot.specs.Idle.{idle, outside, idle_by}
+use Rattle.rot.specs.Idle.{idle}
 use Rattle.rot.proofs.Numbers.{numbers-right}
 
--- ---- Nothing comes of it
-
--- By a table of places.
-module _ (places : List ℕ) (n : ℕ) (s : State) (e : Event) where
-  pub by-no-rule : rule_no s e ≡ 0 → true ≡ idle_by places n s e
-  by-no-rule z = sym (ap (λ (t : Bool). pick t true (outside places n (named e))) (eq-eqb (rule_no s e) 0 z))
-
-  pub by-rule : (o : OptionId) → (rule_no s e ≡ 0 → ⊥) → named e ≡ o → outside places n o ≡ idle_by places n s e
-  by-rule o z q = sym (λ t. pick (ne_eqb (rule_no s e) 0 z t) true (outside places n (q t)))
-
--- By the chain.
+-- An event of which something comes is about a component of the chain: j, where it names none.
 module _ (ch : List Component) (s : State) (e : Event) where
-  pub idle-no-rule : rule_no s e ≡ 0 → true ≡ idle ch s e
-  idle-no-rule z = either (in_chain ch (named e))
-    where
-      either : (t : Bool) → true ≡ pick t (eqb (rule_no s e) 0) true
-      either true = sym (eq-eqb (rule_no s e) 0 z)
-      either false = refl
-
-  idle-in : (b : Bool) → (rule_no s e ≡ 0 → ⊥) → in_chain ch (named e) ≡ b → pick b false true ≡ idle ch s e
-  idle-in b z q = sym (λ t. pick (q t) (ne_eqb (rule_no s e) 0 z t) true)
-
-  pub idle-none : (rule_no s e ≡ 0 → ⊥) → named e ≡ None → false ≡ idle ch s e
-  idle-none z q = idle-in true z (ap (in_chain ch) q)
-
-  pub idle-some : (i : ComponentId) (b : Bool) → (rule_no s e ≡ 0 → ⊥) → named e ≡ Some i → b ≡ leb (length ch) (position ch i) → b ≡ idle ch s e
-  idle-some i b z q h = h ∙ by (ltb (position ch i) (length ch)) refl
-    where
-      by : (t : Bool) → ltb (position ch i) (length ch) ≡ t → leb (length ch) (position ch i) ≡ idle ch s e
-      by true l = lt-leb (length ch) (position ch i) (ltb-true (position ch i) (length ch) l) ∙ idle-in true z (ap (in_chain ch) q ∙ l)
-      by false l = le-leb (length ch) (position ch i) (ltb-false (position ch i) (length ch) l) ∙ idle-in false z (ap (in_chain ch) q ∙ l)
-
-  -- Else the event is about a component of the chain: j, where it names none.
   pub busy-inside : (j : ComponentId) → position ch j < length ch → idle ch s e ≡ false → position ch (whom j (named e)) < length ch
   busy-inside j here h = inside (named e) h
     where
-      inside : (o : OptionId) → pick (in_chain ch o) (eqb (rule_no s e) 0) true ≡ false → position ch (whom j o) < length ch
+      inside : (o : Option ComponentId) → pick (in_chain ch o) (eqb (rule_no s e) 0) true ≡ false → position ch (whom j o) < length ch
       inside None h = here
       inside (Some i) h = by (ltb (position ch i) (length ch)) refl h
         where
           by : (t : Bool) → ltb (position ch i) (length ch) ≡ t → pick t (eqb (rule_no s e) 0) true ≡ false → position ch i < length ch
           by true l h = ltb-true (position ch i) (length ch) l
-          by false l h = let z : ◌≡◌ {A = ℕ} 0 1 = cc in absurd (omega arith)
+          by false l h = cc
 
--- ---- The step
-
+-- The step, where nothing comes of the event and where something may.
 module _ (ch : List Component) (max : ℕ) (c : Core) (e : Event) where
   pub step-idle : idle ch c.state e ≡ true → stay c ≡ step_of ch max c e
   unfolding step_of numbered
@@ -86,6 +53,6 @@ module _ (ch : List Component) (max : ℕ) (c : Core) (e : Event) where
       ∙ numbers-right ch max j c e
       ∙ sym (ap (λ (t : Bool). pick t (rule ch max c e) (stay c)) (inside (named e) (omega (arith, ap (position ch) q))))
     where
-      inside : (o : OptionId) → position ch (whom j o) < length ch → in_chain ch o ≡ true
+      inside : (o : Option ComponentId) → position ch (whom j o) < length ch → in_chain ch o ≡ true
       inside None h = refl
       inside (Some i) h = lt-ltb (position ch i) (length ch) h

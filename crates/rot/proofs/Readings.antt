@@ -1,6 +1,6 @@
 -- Two readings of section 2 that go wrong, each as a law that says how it is.
 use mathlib.Core.Path.{◌≡◌, refl, sym, ap, ◌∙◌, subst}
-use mathlib.Core.Bool.{true, false}
+use mathlib.Core.Bool.{true, false, true≢false}
 use mathlib.Core.List.Memᴰ
 use mathlib.Core.List.{List, [], ◌∷◌, ◌++◌, map, Memᴰ}
 use mathlib.Core.Logic.{⊎_elim}
@@ -29,7 +29,7 @@ use Rattle.advance.specs.Advance.{seek, verify_says, quiet_says, quiesced}
 use Rattle.machine.specs.View.{Core, Out, stay, statuses_are}
 use Rattle.corruption.specs.Corruption.{gate_then, corrupt, move_on}
 use Rattle.recovery.specs.Recovery.{start_over, exhausted, retry_at}
-use Rattle.rot.proofs.Weight.{gate-length}
+use Rattle.rot.proofs.Weight.{gate-length, quiesced-iso}
 
 -- ---- the gate at one position
 gate-own : (st : List ComponentStatus) (p : ℕ) → p < length st → iso (status_at (gate st p) p) ≡ true
@@ -42,19 +42,16 @@ gate-other st p y n =
     pick_p (λ (l : List ComponentStatus). status_at l y ≡ status_at st y) (iso (status_at st p)) (λ t. refl)
     (λ t. get_or-set_other st p y (isolate (status_at st p)) fresh n)
 
-never {ℓ} : {A : Type ℓ} → true ≡ false → A
-never e = let z : ◌≡◌ {A = ℕ} 0 1 = cc in absurd (omega arith)
-
 gate-keeps : (st : List ComponentStatus) (p y : ℕ) → iso (status_at st y) ≡ true → iso (status_at (gate st p) y) ≡ true
 gate-keeps st p y e =
     pick_p (λ (l : List ComponentStatus). iso (status_at l y) ≡ true) (iso (status_at st p)) (λ t. e)
     (λ t.
     by-test (eqb y p)
-    (λ u. never (sym e ∙ ap (λ (k : ℕ). iso (status_at st k)) (eqb-true y p u) ∙ t))
+    (λ u. absurd (true≢false (sym e ∙ ap (λ (k : ℕ). iso (status_at st k)) (eqb-true y p u) ∙ t)))
     (λ u. ap iso (get_or-set_other st p y (isolate (status_at st p)) fresh (eqb-false y p u)) ∙ e))
 
 gate-reports : (ch : List Component) (st : List ComponentStatus) (p : ℕ) → iso (status_at st p) ≡ false → Memᴰ (ReportIsolated (id_at ch p)) (gate_says ch st p)
-gate-reports ch st p e = pick_p (Memᴰ (ReportIsolated (id_at ch p))) (iso (status_at st p)) (λ t. never (sym t ∙ e)) (λ t. Memᴰ.tail (Memᴰ.head refl))
+gate-reports ch st p e = pick_p (Memᴰ (ReportIsolated (id_at ch p))) (iso (status_at st p)) (λ t. absurd (true≢false (sym t ∙ e))) (λ t. Memᴰ.tail (Memᴰ.head refl))
 
 -- ---- the gate at each position of a list
 gates-keep : (st : List ComponentStatus) (ps : List ℕ) (y : ℕ) → iso (status_at st y) ≡ true → iso (status_at (gates st ps) y) ≡ true
@@ -120,8 +117,8 @@ module _ (P : ComponentId → Type 0) where
   verify-told : (ch : List Component) (p : ℕ) → Told P (verify_says ch p)
   verify-told ch p =
       pick_p (Told P) (ltb p (length ch))
-      (λ t. told-cons (ReadFirmware (id_at ch p)) _ (λ j e. never cc)
-      (told-cons (VerifyFirmware (id_at ch p)) [] (λ j e. never cc) told-nil))
+      (λ t. told-cons (ReadFirmware (id_at ch p)) _ (λ j e. cc)
+      (told-cons (VerifyFirmware (id_at ch p)) [] (λ j e. cc) told-nil))
       (λ t. told-nil)
 
   quiet_told : (ch : List Component) (st : List ComponentStatus) → Told P (quiet_says ch st)
@@ -130,7 +127,7 @@ module _ (P : ComponentId → Type 0) where
   quiet_told (c ∷ cs) [] = told-nil
   quiet_told (c ∷ cs) (s ∷ ss) =
       pick_p (Told P) s.released
-      (λ t. told-cons (AssertReset c.id) (quiet_says cs ss) (λ j e. never cc) (quiet_told cs ss))
+      (λ t. told-cons (AssertReset c.id) (quiet_says cs ss) (λ j e. cc) (quiet_told cs ss))
       (λ t. quiet_told cs ss)
 
   -- An outcome that isolates nobody.
@@ -142,9 +139,6 @@ module _ (P : ComponentId → Type 0) where
       → (st : List ComponentStatus) (y : ℕ) → iso (status_at (map g st) y) ≡ iso (status_at st y)
   map_same g f h st y =
       ap iso (ap (λ (d : ComponentStatus). get_or (map g st) y d) (sym f) ∙ get_or-map g st y fresh) ∙ h (status_at st y)
-
-  quiesced-same : (s : ComponentStatus) → iso (quiesced s) ≡ iso s
-  quiesced-same s = pick_p (λ (r : ComponentStatus). iso r ≡ iso s) s.released (λ t. refl) (λ t. refl)
 
   retry-same : (n : ℕ) (st : List ComponentStatus) (p y : ℕ) → iso (status_at (touch (retry_is n) st p) y) ≡ iso (status_at st y)
   retry-same n [] p y = refl
@@ -170,7 +164,7 @@ module _ (P : ComponentId → Type 0) where
       let st : List ComponentStatus = (retry_at ch i 0 c).statuses in
       let q : ℕ = seek (map quiesced st) 0 in
       record {
-        same = λ y. map_same quiesced refl quiesced-same st y ∙ retry-same 0 c.statuses (position ch i) y;
+        same = λ y. map_same quiesced refl quiesced-iso st y ∙ retry-same 0 c.statuses (position ch i) y;
         told = told-append (quiet_says ch st) (verify_says ch q) (quiet_told ch st) (verify-told ch q);
       }
 
@@ -187,7 +181,7 @@ module _ (ch : List Component) (i : ComponentId) (h : position ch i < length ch)
   gate-told : (st : List ComponentStatus) → Told Own (gate_says ch st (position ch i))
   gate-told st =
       pick_p (Told Own) (iso (status_at st (position ch i))) (λ t. told-nil Own)
-      (λ t. told-cons Own (AssertReset (id_at ch (position ch i))) _ (λ j e. never cc)
+      (λ t. told-cons Own (AssertReset (id_at ch (position ch i))) _ (λ j e. cc)
       (told-cons Own (ReportIsolated (id_at ch (position ch i))) []
       (λ j e. let z : j ≡ id_at ch (position ch i) = cc in z ∙ position-holds ch i h)
       (told-nil Own)))

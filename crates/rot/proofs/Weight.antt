@@ -126,7 +126,7 @@ unfolding live weight
 live-weight [] = omega arith
 live-weight (s ∷ ss) = omega (arith, released-weight s, live-weight ss)
 
-quiesced-iso : (s : ComponentStatus) → iso (quiesced s) ≡ iso s
+pub quiesced-iso : (s : ComponentStatus) → iso (quiesced s) ≡ iso s
 quiesced-iso s = pick_p (λ (r : ComponentStatus). iso r ≡ iso s) s.released (λ t. refl) (λ t. refl)
 
 -- and one that is not Isolated weighs more than is handed out for it.

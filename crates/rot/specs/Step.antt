@@ -1,11 +1,9 @@
 -- Section 3: the next state and the effects, by event (18 rows) and state (7 columns).
-use Rattle.std.specs.Prelude.{Bool, true, List, [], ℕ, ltb, length}
+use Rattle.std.specs.Prelude.{Bool, true, List, [], ℕ, ltb, length, Option, None, Some}
 use Rattle.model.specs.Vocabulary.{pick, named}
 use Rattle.components.specs.Chain.{position}
 use Rattle.model.specs.declared.ComponentId.{ComponentId}
 use Rattle.model.specs.declared.Component.{Component}
-use Rattle.model.specs.declared.OptionId.{OptionId}
-use Rattle.model.specs.declared.OptionId.TheVariants.{None, Some}
 use Rattle.model.specs.declared.State.{State}
 use Rattle.model.specs.declared.State.TheVariants.{PowerOnReset, PreSupervision, AwaitingReady, Ready, Updating, Recovering, Locked}
 use Rattle.model.specs.declared.Event.{Event}
@@ -19,7 +17,7 @@ use Rattle.failures.specs.Failures.{timeout, boot_failed}
 use Rattle.recovery.specs.Recovery.{restored, unavailable}
 
 -- One of seven answers, by the state.
-abbrev pub by_state {ℓ} : {A : Type ℓ} → State → A → A → (OptionId → A) → A → A → (ComponentId → A) → A → A
+abbrev pub by_state {ℓ} : {A : Type ℓ} → State → A → A → (Option ComponentId → A) → A → A → (ComponentId → A) → A → A
 by_state PowerOnReset a b c d e f g = a
 by_state PreSupervision a b c d e f g = b
 by_state (AwaitingReady o) a b c d e f g = c o
@@ -50,7 +48,7 @@ rule ch max c CommitTimeout = by_state c.state (stay c) (stay c) (λ o. stay c) 
 rule ch max c EffectFailed = by_state c.state (enter_locked c) (enter_locked c) (λ o. enter_locked c) (enter_locked c) (enter_locked c) (λ f. enter_locked c) (stay c)
 
 -- An event that names an id outside the chain does nothing.
-abbrev pub in_chain : List Component → OptionId → Bool
+abbrev pub in_chain : List Component → Option ComponentId → Bool
 in_chain ch None = true
 in_chain ch (Some i) = ltb (position ch i) (length ch)
 

@@ -1,9 +1,8 @@
 -- Whom an event is about.
+use Rattle.std.specs.Prelude.{Option, None, Some}
 use Rattle.model.specs.declared.ComponentId.{ComponentId}
-use Rattle.model.specs.declared.OptionId.{OptionId}
-use Rattle.model.specs.declared.OptionId.TheVariants.{None, Some}
 
 -- The component that an event names, or j where it names none.
-abbrev pub whom : ComponentId → OptionId → ComponentId
+abbrev pub whom : ComponentId → Option ComponentId → ComponentId
 whom j None = j
 whom j (Some i) = i

@@ -12,19 +12,16 @@ ghost use Rattle.rot.specs.Stepped.{bare, Stepped};
 
 use chain::Chain;
 use machine::{Rot, Work};
-use model::{ComponentId, Event, OptionId, State};
+use model::{ComponentId, Event, State};
 use store::Sink;
 
-// Whom an event is about. For one that names no component the first of the chain stands in: its rule asks for none.
+// Whom an event is about. For one that names no component the first of the chain stands in: its rule asks for none. It is read
+// in place, since a call would copy the chain for every event.
 fn about(chain: Chain, event: Event) -> ComponentId
     requires { 0 < size chain }
     ensures { result ≡ whom (id_at (entries chain) 0) (named event) }
 {
-    let named = event.component_id();
-    match named {
-        OptionId::None => chain.id_at(0),
-        OptionId::Some(id) => id,
-    }
+    event.component_id().unwrap_or(chain.list.entries[0].id)
 }
 
 // Does nothing come of the event whatever the machine is: no rule in this state, or an id outside the chain? `positions` is
@@ -36,14 +33,10 @@ pub fn idles(positions: [u8; 256], n: usize, state: State, event: Event) -> bool
     if table::rule_number(state, event) == 0 {
         return true;
     }
-    let named = event.component_id();
-    match named {
-        OptionId::None => false,
-        OptionId::Some(id) => {
-            let i = id.0 as usize;
-            n <= positions[i] as usize
-        }
-    }
+    let Some(id) = event.component_id() else {
+        return false;
+    };
+    n <= positions[id.0 as usize] as usize
 }
 
 // One event on a machine between events: what it becomes, with the event's effects in the sink, and nothing of what the sink
@@ -54,20 +47,12 @@ pub fn step(chain: Chain, max_retry: u8, state: State, rot: Rot, sink: Sink, eve
     requires { Sane chain (bare state rot) }
     ensures { Stepped chain max_retry (bare state rot) event result }
 {
-    let n = chain.count();
-    let positions = chain.positions;
-    let mut empty = sink;
-    empty.len = 0;
-    let w = Work {
-        state: state,
-        rot: rot,
-        sink: empty,
-    };
-    if idles(positions, n, state, event) {
+    let mut w = Work { state, rot, sink };
+    w.sink.len = 0;
+    if idles(chain.positions, chain.count(), state, event) {
         return w;
     }
     let id = about(chain, event);
-    let p = chain.position(id);
     let rule = table::rule_number(state, event);
-    numbered::apply(chain, max_retry, w, event, id, p, rule)
+    numbered::apply(chain, max_retry, w, event, id, chain.position(id), rule)
 }

@@ -1,5 +1,6 @@
 -- A run is tied to the history of its calls: every step keeps that, and how it stops tells what it leaves unwritten. A
 -- history of the code's own calls answers as the definitions do, so that this and demand 3 hold of it.
+use Rattle.std.specs.Prelude.{None, Ok, Err, Option}
 use mathlib.Core.Path.{◌≡◌, refl, sym, subst, ap, ◌∙◌}
 use mathlib.Core.Logic.{inl, inr, ⊎_elim}
 use mathlib.Core.Bool.{Bool, true, false}
@@ -14,11 +15,8 @@ use Rattle.model.specs.declared.Component.{Component}
 use Rattle.model.specs.declared.Effect.{Effect}
 use Rattle.model.proofs.Pick.{pick_p}
 use Rattle.components.specs.declared.ComponentList.{ComponentList}
-use Rattle.components.specs.declared.Verdict.{Verdict}
-use Rattle.components.specs.declared.Verdict.TheVariants.{Accepted, Refused}
 use Rattle.components.specs.declared.ChainError.TheVariants.{Empty, TooLong, DuplicateId, UnknownDependency, ForwardDependency}
-use Rattle.components.specs.Chain.{no_entries, answer_of}
-use Rattle.settling.specs.declared.Waiting.TheVariants.{Nothing}
+use Rattle.components.specs.Chain.{no_entries, answer_of, Verdict, no_refusal}
 use Rattle.sm.specs.Calls.{start_of}
 use Rattle.lines.specs.declared.Row.{Row}
 use Rattle.reader.specs.Read.{bad_line, rows_in, retry_in, cards_in, pushed_all}
@@ -47,7 +45,7 @@ module _ (s : Setting) (n255 : length s.chain ≤ 255) (room : ℕ) where
   -- What is said of a run that gave this after the calls ks.
   record Done (o : Outcome) (ks : List Call) : Type 0 where
     granted : Granted (answers_to s.chain s.max_retry ks)
-    rested : o.number ≡ 0 → (last s ks).waiting ≡ Nothing
+    rested : o.number ≡ 0 → (last s ks).waiting ≡ None
     effects : FirstEffects o (log s ks)
     lines_of : FirstLines o room (lines s ks) (ends s ks)
     count : Counted o s.limit (log s ks)
@@ -154,7 +152,7 @@ module _ (s : Setting) (n255 : length s.chain ≤ 255) (room : ℕ) where
       (λ g. h)
 
   -- Before the first line nothing is called, written or to come.
-  starts : (rs : List Row) → Onward record { point = start_point s.chain rs; said = [] } []
+  starts : (rs : List (Option Row)) → Onward record { point = start_point s.chain rs; said = [] } []
   unfolding start_point start_of machine_after log_of answers_to call_lines handed_out effects_in transcript
   starts rs = record {
     stands = λ g. record {
@@ -178,7 +176,7 @@ module _ (s : Setting) (n255 : length s.chain ≤ 255) (room : ℕ) where
     stops = λ g. goes refl g;
   }
 
-  whole : (rs : List Row)
+  whole : (rs : List (Option Row))
       → Onward (run_from s room (start_point s.chain rs)) (calls_from s room (start_point s.chain rs))
   unfolding run_from
   whole rs =
@@ -205,18 +203,18 @@ pub x-lines : XLines
 x-lines s room limit h = (runs-tied s room limit h).effects
 
 -- Number 0 is the answer to an accepted chain alone.
-no_number : (v : Verdict) → (answer_of v).number ≡ 0 → v ≡ Accepted
-no_number Accepted h = refl
-no_number (Refused Empty) h = absurd (omega (arith, h))
-no_number (Refused TooLong) h = absurd (omega (arith, h))
-no_number (Refused (DuplicateId i)) h = absurd (omega (arith, h))
-no_number (Refused (UnknownDependency i d)) h = absurd (omega (arith, h))
-no_number (Refused (ForwardDependency i d)) h = absurd (omega (arith, h))
+no_number : (v : Verdict) → (answer_of v).number ≡ 0 → v ≡ no_refusal
+no_number (Ok u) h = refl
+no_number (Err Empty) h = absurd (omega (arith, h))
+no_number (Err TooLong) h = absurd (omega (arith, h))
+no_number (Err (DuplicateId i)) h = absurd (omega (arith, h))
+no_number (Err (UnknownDependency i d)) h = absurd (omega (arith, h))
+no_number (Err (ForwardDependency i d)) h = absurd (omega (arith, h))
 
-passed : (s : List ℕ) → (check_of s).number ≡ 0 → verdict_in s ≡ Accepted
+passed : (s : List ℕ) → (check_of s).number ≡ 0 → verdict_in s ≡ no_refusal
 unfolding check_of
 passed s =
-    pick_p (λ (o : Outcome). o.number ≡ 0 → verdict_in s ≡ Accepted) (eqb (bad_line s) 0) (λ t h. no_number (verdict_in s) h)
+    pick_p (λ (o : Outcome). o.number ≡ 0 → verdict_in s ≡ no_refusal) (eqb (bad_line s) 0) (λ t h. no_number (verdict_in s) h)
     (λ t h. absurd (omega (arith, h)))
 
 pub transcripts-demanded : Transcripts

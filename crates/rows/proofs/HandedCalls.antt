@@ -1,6 +1,7 @@
 -- The machine of the last call is where the turns of the run's machine lead. The lines of the calls are what is written, and
 -- the line of the call under way if that is still to come; the events settled are those counted, and those that the call
 -- under way is still to take. A turn keeps this. A call begins with a machine at rest: that of the call before.
+use Rattle.std.specs.Prelude.{Option, None, Some}
 use mathlib.Core.Path.{◌≡◌, refl, sym, subst, ap, ◌∙◌}
 use mathlib.Core.List.{List, [], ◌∷◌, ◌++◌, map, append_assoc, append-nil}
 use Prim.Native.Nat.{ℕ, ◌+◌, ◌<◌}
@@ -12,12 +13,8 @@ use Rattle.model.specs.declared.Event.{Event}
 use Rattle.model.specs.declared.Effect.{Effect}
 use Rattle.model.proofs.Pick.{pick_p}
 use Rattle.pending.specs.Queue.{has_room}
-use Rattle.pending.specs.declared.OptionEvent.{OptionEvent}
-use Rattle.pending.specs.declared.OptionEvent.TheVariants.{NoEvent, OneEvent}
 use Rattle.settling.specs.declared.Reply.{Reply}
 use Rattle.settling.specs.declared.Reply.TheVariants.{Done, Then, Failed}
-use Rattle.settling.specs.declared.Waiting.{Waiting}
-use Rattle.settling.specs.declared.Waiting.TheVariants.{Nothing, Handed}
 use Rattle.settling.specs.Settle.{Model, Run, waiting_is, queue_is, latch, enqueue, replied, turn_by, turn_of, taken_by, next_event, noted, turned, settle}
 use Rattle.settling.specs.View.{RestsBy, Rests}
 use Rattle.settling.proofs.Ends.{Few, enqueue-few, fail-few, turn-few, turned-stays, settle-ends}
@@ -43,22 +40,22 @@ handed-taken [] = refl
 handed-taken (e ∷ es) = handed-taken es
 
 -- Its items, where it answers 0 and the effect w waits after it.
-abbrev items : Waiting → List Event → List Item
+abbrev items : Option Effect → List Event → List Item
 items w es = handed_by record { number = 0; effect = w } ++ map Taken es
 
 -- Its line has the effect that it hands out.
-handed-line : (m : Model) (w : Waiting) (es : List Event) → handed_out (items w es) ≡ effects_in (line_by m w ∷ [])
+handed-line : (m : Model) (w : Option Effect) (es : List Event) → handed_out (items w es) ≡ effects_in (line_by m w ∷ [])
 unfolding handed_out effects_in
-handed-line m Nothing es = handed-taken es
-handed-line m (Handed x) es = ap (λ (xs : List Effect). xs ++ (x ∷ [])) (handed-taken es)
+handed-line m None es = handed-taken es
+handed-line m (Some x) es = ap (λ (xs : List Effect). xs ++ (x ∷ [])) (handed-taken es)
 
 settled-taken : (es : List Event) (log : List Item) → settled (map Taken es ++ log) ≡ settled log + length es
 settled-taken [] log = omega arith
 settled-taken (e ∷ es) log = omega (arith, settled-taken es log)
 
-settled-items : (w : Waiting) (es : List Event) (log : List Item) → settled (items w es ++ log) ≡ settled log + length es
-settled-items Nothing es log = settled-taken es log
-settled-items (Handed x) es log = settled-taken es log
+settled-items : (w : Option Effect) (es : List Event) (log : List Item) → settled (items w es ++ log) ≡ settled log + length es
+settled-items None es log = settled-taken es log
+settled-items (Some x) es log = settled-taken es log
 
 pub effects-append : (es fs : List Entry) → effects_in (es ++ fs) ≡ effects_in es ++ effects_in fs
 unfolding effects_in
@@ -71,12 +68,12 @@ effects-append (Told i t ∷ es) fs = effects-append es fs
 
 -- The dispatch is over, and no effect waits.
 abbrev pub Idle : Model → Type 0
-Idle m = (m.waiting ≡ Nothing) × Rests m
+Idle m = (m.waiting ≡ None) × Rests m
 
 -- Then nothing is left and nothing is queued.
 pub idle-parts : (m : Model) → Idle m → (m.left ≡ []) × (m.queue ≡ [])
 idle-parts m i =
-    let r = subst (λ (w : Waiting). RestsBy w m.left m.queue m.failed) i.0 i.1 in
+    let r = subst (λ (w : Option Effect). RestsBy w m.left m.queue m.failed) i.0 i.1 in
     (r.0, r.1)
 
 enqueued : (m : Model) (e : Event) → m.queue ≡ [] → enqueue e m ≡ queue_is (e ∷ []) m
@@ -85,7 +82,7 @@ enqueued m e q =
 
 -- A reply leaves no effect waiting, and room for the events.
 abbrev Quiet : Model → Type 0
-Quiet m = m.waiting ≡ Nothing
+Quiet m = m.waiting ≡ None
 
 replied-quiet : (a : Reply) (m : Model) → Quiet m → Quiet (replied a m)
 replied-quiet Done m h = h
@@ -100,25 +97,25 @@ replied-few Failed m h = fail-few m h
 -- ---- A call under way
 
 -- Its line, if that is still to come: w waits now, and l is the machine in the end.
-abbrev pub due : Waiting → Model → List Entry
-due (Handed x) l = []
-due Nothing l = line_by l l.waiting ∷ []
+abbrev pub due : Option Effect → Model → List Entry
+due (Some x) l = []
+due None l = line_by l l.waiting ∷ []
 
 -- What is to come is what a turn writes, and what is to come after it.
-due-next : (w : Waiting) (l : Model) → ((x : Effect) → w ≡ Handed x → l.waiting ≡ w)
-    → due Nothing l ≡ handed w ++ due w l
-due-next Nothing l h = refl
-due-next (Handed x) l h = ap (λ (w : Waiting). line_by l w ∷ []) (h x refl)
+due-next : (w : Option Effect) (l : Model) → ((x : Effect) → w ≡ Some x → l.waiting ≡ w)
+    → due None l ≡ handed w ++ due w l
+due-next None l h = refl
+due-next (Some x) l h = ap (λ (w : Option Effect). line_by l w ∷ []) (h x refl)
 
 -- How many are settled after a turn that takes this event or none.
-abbrev pub tally : OptionEvent → ℕ → ℕ
-tally NoEvent n = n
-tally (OneEvent e) n = n + 1
+abbrev pub tally : Option Event → ℕ → ℕ
+tally None n = n
+tally (Some e) n = n + 1
 
-tally-noted : (o : OptionEvent) (n before : ℕ) (es : List Event) → n ≡ before + length es
+tally-noted : (o : Option Event) (n before : ℕ) (es : List Event) → n ≡ before + length es
     → tally o n ≡ before + length (noted o es)
-tally-noted NoEvent n before es h = h
-tally-noted (OneEvent e) n before es h = omega (arith, h)
+tally-noted None n before es h = h
+tally-noted (Some e) n before es h = omega (arith, h)
 
 module _ (s : Setting) where
   abbrev ch : List Component
@@ -160,7 +157,7 @@ module _ (s : Setting) where
     pub machine : m ≡ last ks
     pub count : n ≡ settled (log ks)
 
-  turned-waiting : (m : Model) (es : List Event) (x : Effect) → m.waiting ≡ Handed x
+  turned-waiting : (m : Model) (es : List Event) (x : Effect) → m.waiting ≡ Some x
       → turned ch max record { machine = m; settled = es } ≡ record { machine = m; settled = es }
   turned-waiting m es x e =
       λ j. record {
@@ -178,7 +175,7 @@ module _ (s : Setting) where
       }
 
   -- An effect waits.
-  pub waiting-through : (m : Model) (n : ℕ) (said : List Entry) (ks : List Call) (x : Effect) → m.waiting ≡ Handed x
+  pub waiting-through : (m : Model) (n : ℕ) (said : List Entry) (ks : List Call) (x : Effect) → m.waiting ≡ Some x
       → Within m n said ks → Through m n ks
   waiting-through m n said ks x e h = through m n said ks h (turned-waiting m h.now x e)
 
@@ -187,13 +184,13 @@ module _ (s : Setting) where
   rest-through m n said ks r h = through m n said ks h (turned-stays ch max record { machine = m; settled = h.now } r)
 
   -- ---- A turn
-  pub turning : (m : Model) (n : ℕ) (said : List Entry) (ks : List Call) → m.waiting ≡ Nothing → Within m n said ks
+  pub turning : (m : Model) (n : ℕ) (said : List Entry) (ks : List Call) → m.waiting ≡ None → Within m n said ks
       → Within (turn_of ch max m) (tally (next_event m) n) (said ++ handed (turn_of ch max m).waiting) ks
   turning m n said ks e h =
-      let v : Waiting = (turn_of ch max m).waiting in
+      let v : Option Effect = (turn_of ch max m).waiting in
       let l = turn-leads ch max h.leads h.rests in
       let k = tally-noted (next_event m) n h.before h.now h.count in
-      let final : (x : Effect) → v ≡ Handed x → (last ks).waiting ≡ v =
+      let final : (x : Effect) → v ≡ Some x → (last ks).waiting ≡ v =
       λ x w. ap (λ (r : Run). r.machine.waiting)
       (sym (stays ch max l (turned-waiting (turn_of ch max m) (noted (next_event m) h.now) x w))) in
       record {
@@ -205,30 +202,30 @@ module _ (s : Setting) where
         few = turn-few ch max m h.few;
         count = k;
         total = h.total;
-        written = h.written ∙ ap (λ (w : Waiting). said ++ due w (last ks)) e
+        written = h.written ∙ ap (λ (w : Option Effect). said ++ due w (last ks)) e
             ∙ ap (λ (es : List Entry). said ++ es) (due-next v (last ks) final)
             ∙ sym (append_assoc said (handed v) (due v (last ks)));
         effects = h.effects;
       }
 
   -- More events are to come where the next turn takes one.
-  pub taking-more : (m : Model) (n : ℕ) (said : List Entry) (ks : List Call) (e : Event) → next_event m ≡ OneEvent e
+  pub taking-more : (m : Model) (n : ℕ) (said : List Entry) (ks : List Call) (e : Event) → next_event m ≡ Some e
       → Within m n said ks → n < settled (log ks)
   taking-more m n said ks e o h =
       let more = takes-more ch max (turn-leads ch max h.leads h.rests) in
       let one : length (noted (next_event m) h.now) ≡ length h.now + 1 =
-      ap (λ (v : OptionEvent). length (noted v h.now)) o ∙ omega arith in
+      ap (λ (v : Option Event). length (noted v h.now)) o ∙ omega arith in
       omega (arith, h.count, h.total, more, one)
 
   -- ---- A call
   -- It settles the machine m; the lines of the calls before are written, and their events counted.
   calls : (m : Model) (n : ℕ) (said : List Entry) (ks : List Call) (k : Call)
       → expected_after ch max ks k ≡ answered (settle ch max m)
-      → m.waiting ≡ Nothing → Few m → n ≡ settled (log ks) → lines ks ≡ said → Effects ks → Within m n said (k ∷ ks)
+      → m.waiting ≡ None → Few m → n ≡ settled (log ks) → lines ks ≡ said → Effects ks → Within m n said (k ∷ ks)
   unfolding machine_after log_of answers_to call_lines
   calls m n said ks k g w h c e x =
       let r : Run = settle ch max m in
-      let v : Waiting = r.machine.waiting in
+      let v : Option Effect = r.machine.waiting in
       let f : last (k ∷ ks) ≡ r.machine = ap (λ (y : Expected). y.machine) g in
       let logged : log (k ∷ ks) ≡ items v r.settled ++ log ks =
       ap (λ (y : Expected). (handed_by record { number = y.number; effect = y.effect } ++ map Taken y.settled) ++ log ks)
@@ -256,16 +253,16 @@ module _ (s : Setting) where
       }
 
   pub replying : (m : Model) (n : ℕ) (said : List Entry) (ks : List Call) (x : Effect) (a : Reply)
-      → m.waiting ≡ Handed x → Within m n said ks
-      → Within (replied a (waiting_is Nothing m)) n said (ReplyTo a ∷ ks)
+      → m.waiting ≡ Some x → Within m n said ks
+      → Within (replied a (waiting_is None m)) n said (ReplyTo a ∷ ks)
   unfolding reply_of
   replying m n said ks x a e h =
-      let quiet : Model = waiting_is Nothing m in
+      let quiet : Model = waiting_is None m in
       let t = waiting-through m n said ks x e h in
       calls (replied a quiet) n said ks (ReplyTo a)
       (ap (λ (y : Model). reply_of ch max y a) (sym t.machine) ∙ ap (reply_by ch max m a) e)
       (replied-quiet a quiet refl) (replied-few a quiet h.few) t.count
-      (h.written ∙ ap (λ (w : Waiting). said ++ due w (last ks)) e ∙ append-nil said) h.effects
+      (h.written ∙ ap (λ (w : Option Effect). said ++ due w (last ks)) e ∙ append-nil said) h.effects
 
   -- Between the E lines.
   pub beginning : (m : Model) (n : ℕ) (said : List Entry) (ks : List Call) (e : Event)

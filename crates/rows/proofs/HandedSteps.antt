@@ -1,6 +1,7 @@
 -- What every step of a run keeps. The run stands in an E line, with a call under way, or between two, with the dispatch over
 -- and the lines of all calls written; at the end of the sheet T lines follow. A step that makes a call begins with a machine
 -- at rest; any other step is a turn, or leaves the machine as it is.
+use Rattle.std.specs.Prelude.{Option, None, Some}
 use mathlib.Core.Path.{◌≡◌, refl, sym, subst, ap, ◌∙◌}
 use mathlib.Core.Logic.{◌⊎◌, inl, inr, ⊎_elim}
 use mathlib.Core.Bool.{Bool, true, false}
@@ -18,12 +19,8 @@ use Rattle.model.proofs.Pick.{pick_p}
 use Rattle.components.specs.Chain.{id_at}
 use Rattle.machine.specs.declared.ComponentStatus.{ComponentStatus}
 use Rattle.machine.specs.Status.{status_at}
-use Rattle.pending.specs.declared.OptionEvent.{OptionEvent}
-use Rattle.pending.specs.declared.OptionEvent.TheVariants.{NoEvent, OneEvent}
 use Rattle.settling.specs.declared.Reply.{Reply}
 use Rattle.settling.specs.declared.Reply.TheVariants.{Done}
-use Rattle.settling.specs.declared.Waiting.{Waiting}
-use Rattle.settling.specs.declared.Waiting.TheVariants.{Nothing, Handed}
 use Rattle.settling.specs.Settle.{Model, turn_by, turn_of, taken_by, next_event}
 use Rattle.settling.specs.View.{RestsBy}
 use Rattle.lines.specs.declared.Row.{Row}
@@ -76,8 +73,8 @@ one-effect (Told i t) es h = omega (arith, ap length h)
 pub goes : {A : Type 0} {b : Bool} → b ≡ true → b ≡ false → A
 goes t f = let z : ◌≡◌ {A = ℕ} 1 0 = ap (λ (b : Bool). pick b 1 0) (sym t ∙ f) in absurd (omega arith)
 
-not-waiting : {A : Type 0} (w : Waiting) (x : Effect) → w ≡ Nothing → w ≡ Handed x → A
-not-waiting w x e f = let n : Nothing ≡ Handed x = sym e ∙ f in let z : ◌≡◌ {A = ℕ} 0 1 = cc in absurd (omega arith)
+not-waiting : {A : Type 0} (w : Option Effect) (x : Effect) → w ≡ None → w ≡ Some x → A
+not-waiting w x e f = let n : None ≡ Some x = sym e ∙ f in let z : ◌≡◌ {A = ℕ} 0 1 = cc in absurd (omega arith)
 
 not-empty : {A B : Type 0} (l : List B) (x : B) (xs : List B) → l ≡ [] → l ≡ x ∷ xs → A
 not-empty l x xs e f = let z : ◌≡◌ {A = ℕ} 0 (suc (length xs)) = ap length (sym e ∙ f) in absurd (omega arith)
@@ -95,7 +92,7 @@ module _ (s : Setting) where
     pub busy : work ≡ 0 → ⊥
 
   -- Between two; before the sheet's end no T line is told.
-  pub record Between (m : Model) (n told : ℕ) (rs : List Row) (said : List Entry) (ks : List Call) : Type 0 where
+  pub record Between (m : Model) (n told : ℕ) (rs : List (Option Row)) (said : List Entry) (ks : List Call) : Type 0 where
     pub idle : Idle m
     pub through : Through s m n ks
     pub written : lines s ks ++ ends ks ≡ said ++ drop told (ends ks)
@@ -141,7 +138,7 @@ module _ (s : Setting) where
     pub left : (room : ℕ) → Unwritten room said (ends ks) number rest
     pub same : (number ≡ 9 → ⊥) → n ≡ settled (log s ks)
     pub past : number ≡ 9 → (n ≡ s.limit) × (s.limit < settled (log s ks))
-    pub rested : (number ≡ 9 → ⊥) → (last s ks).waiting ≡ Nothing
+    pub rested : (number ≡ 9 → ⊥) → (last s ks).waiting ≡ None
 
   abbrev Stops : Bool → Point → List Entry → List Call → Type 0
   Stops going p said ks = going ≡ true → p.going ≡ false → Stopped p.settled p.number said ks
@@ -170,7 +167,7 @@ module _ (s : Setting) where
   ends-quiet ks = tell-quiet s.chain _ 0
 
   replies : (said : List Entry) (ks : List Call) (p : Point) (x : Effect) (a : Reply) → 0 < p.line → p.settled ≤ s.limit
-      → p.machine.waiting ≡ Handed x → Busy p said ks → After p.going said (ReplyTo a ∷ ks) (silent (answered a p))
+      → p.machine.waiting ≡ Some x → Busy p said ks → After p.going said (ReplyTo a ∷ ks) (silent (answered a p))
   replies said ks p x a line low e d =
       let w = replying s p.machine p.settled said ks x a e d.within in
       silently p.going said (ReplyTo a ∷ ks) (answered a p)
@@ -191,30 +188,30 @@ module _ (s : Setting) where
     busy-by f = ⊎_elim (λ d. d) (λ b. f b.1.idle) h.here
 
     -- ---- An effect waits
-    waits : (rs : List Row) (x : Effect) → m.waiting ≡ Handed x
+    waits : (rs : List (Option Row)) (x : Effect) → m.waiting ≡ Some x
         → After p.going said (ReplyTo (reply_at rs) ∷ ks) (silent (answering p rs))
     waits rs x e = by_row rs
       where
         busy : Busy p said ks
         busy = busy-by (λ i. not-waiting m.waiting x i.0 e)
 
-        by_row : (rs : List Row) → After p.going said (ReplyTo (reply_at rs) ∷ ks) (silent (answering p rs))
+        by_row : (rs : List (Option Row)) → After p.going said (ReplyTo (reply_at rs) ∷ ks) (silent (answering p rs))
         by_row [] = replies said ks p x Done h.line h.low e busy
-        by_row (R.Retry k ∷ rs) = replies said ks p x Done h.line h.low e busy
-        by_row (R.Card c ∷ rs) = replies said ks p x Done h.line h.low e busy
-        by_row (R.Begin v ∷ rs) = replies said ks p x Done h.line h.low e busy
-        by_row (R.Answer a ∷ rs) = replies said ks (onward rs p) x a (omega arith) h.low e busy
-        by_row (R.Bad ∷ rs) = replies said ks p x Done h.line h.low e busy
+        by_row (Some (R.Retry k) ∷ rs) = replies said ks p x Done h.line h.low e busy
+        by_row (Some (R.Card c) ∷ rs) = replies said ks p x Done h.line h.low e busy
+        by_row (Some (R.Begin v) ∷ rs) = replies said ks p x Done h.line h.low e busy
+        by_row (Some (R.Answer a) ∷ rs) = replies said ks (onward rs p) x a (omega arith) h.low e busy
+        by_row (None ∷ rs) = replies said ks p x Done h.line h.low e busy
 
     -- ---- A turn
     -- One that takes no event.
-    turns : m.waiting ≡ Nothing → next_event m ≡ NoEvent → Busy p said ks
+    turns : m.waiting ≡ None → next_event m ≡ None → Busy p said ks
         → Within s next n (said ++ handed next.waiting) ks
     turns e o d =
-        subst (λ (v : OptionEvent). Within s next (tally v n) (said ++ handed next.waiting) ks) o
+        subst (λ (v : Option Event). Within s next (tally v n) (said ++ handed next.waiting) ks) o
         (turning s m n said ks e d.within)
 
-    hands_out : (x : Effect) (b : List Effect) → m.waiting ≡ Nothing → m.left ≡ x ∷ b → After p.going said ks (handing s p)
+    hands_out : (x : Effect) (b : List Effect) → m.waiting ≡ None → m.left ≡ x ∷ b → After p.going said ks (handing s p)
     hands_out x b e l =
         let d : Busy p said ks = busy-by (λ i. not-empty m.left x b (idle-parts m i).0 l) in
         let w : Within s next n (said ++ handed next.waiting) ks = turns e (λ j. taken_by (e j) (l j) m.queue) d in
@@ -224,41 +221,41 @@ module _ (s : Setting) where
           stops = goes;
         }
       where
-        by-effect : Within s next n (said ++ handed next.waiting) ks → (v : Waiting) → next.waiting ≡ v
+        by-effect : Within s next n (said ++ handed next.waiting) ks → (v : Option Effect) → next.waiting ≡ v
             → (handed next.waiting ≡ []) ⊎ Spoken said ks (handing s p)
-        by-effect w Nothing f = inl (ap handed f)
-        by-effect w (Handed y) f =
+        by-effect w None f = inl (ap handed f)
+        by-effect w (Some y) f =
             inr record {
               line = Effected y;
               rest = ends ks;
               this = ap handed f;
               first = up_to said ks (Effected y)
-                  (w.written ∙ ap (λ (v : Waiting). (said ++ handed v) ++ due v (last s ks)) f
+                  (w.written ∙ ap (λ (v : Option Effect). (said ++ handed v) ++ due v (last s ks)) f
                   ∙ append-nil (said ++ (Effected y ∷ [])));
               few = omega arith;
               quiet = ends-quiet ks;
               count = (waiting-through s next n (said ++ handed next.waiting) ks y f w).count;
             }
 
-    takes : (e : Event) (q : List Event) → m.waiting ≡ Nothing → m.left ≡ [] → m.queue ≡ e ∷ q
+    takes : (e : Event) (q : List Event) → m.waiting ≡ None → m.left ≡ [] → m.queue ≡ e ∷ q
         → After p.going said ks (silent (taking s p))
     takes e q w l r =
         let d : Busy p said ks = busy-by (λ i. not-empty m.queue e q (idle-parts m i).1 r) in
-        let o : next_event m ≡ OneEvent e = λ j. taken_by (w j) (l j) (r j) in
-        let v : next.waiting ≡ Nothing = (λ j. (turn_by s.chain s.max_retry m (w j) (l j) (r j)).waiting) ∙ w in
+        let o : next_event m ≡ Some e = λ j. taken_by (w j) (l j) (r j) in
+        let v : next.waiting ≡ None = (λ j. (turn_by s.chain s.max_retry m (w j) (l j) (r j)).waiting) ∙ w in
         let t : Within s next (n + 1) (said ++ handed next.waiting) ks =
-        subst (λ (u : OptionEvent). Within s next (tally u n) (said ++ handed next.waiting) ks) o
+        subst (λ (u : Option Event). Within s next (tally u n) (said ++ handed next.waiting) ks) o
         (turning s m n said ks w d.within) in
         let quiet : Within s next (n + 1) said ks =
         subst (λ (es : List Entry). Within s next (n + 1) es ks)
-        (ap (λ (u : Waiting). said ++ handed u) v ∙ append-nil said) t in
+        (ap (λ (u : Option Effect). said ++ handed u) v ∙ append-nil said) t in
         let line : Entry = line_by (last s ks) (last s ks).waiting in
         pick_p (λ (x : Point). After p.going said ks (silent x)) (leb s.limit n)
         (λ f. silently p.going said ks (stopped 9 0 p) record { line = h.line; low = h.low; here = inl d }
         (λ a b. let full : n ≡ s.limit = omega (arith, h.low, leb-true s.limit n f) in
         record {
           rest = line ∷ ends ks;
-          first = up_to said ks line (d.within.written ∙ ap (λ (u : Waiting). said ++ due u (last s ks)) w);
+          first = up_to said ks line (d.within.written ∙ ap (λ (u : Option Effect). said ++ due u (last s ks)) w);
           few = omega arith;
           one = one-effect line (ends ks) (ends-quiet ks);
           none = λ k. absurd (k refl);
@@ -276,12 +273,12 @@ module _ (s : Setting) where
         goes)
 
     -- The turn that ends the dispatch, with nothing left and nothing queued.
-    over : m.waiting ≡ Nothing → m.left ≡ [] → m.queue ≡ [] → Idle next
+    over : m.waiting ≡ None → m.left ≡ [] → m.queue ≡ [] → Idle next
     over e l q =
         subst Idle (λ j. turn_by s.chain s.max_retry m (sym e j) (sym l j) (sym q j))
-        (e, subst (λ (w : Waiting). RestsBy w m.left m.queue false) (sym e) (l, q, refl))
+        (e, subst (λ (w : Option Effect). RestsBy w m.left m.queue false) (sym e) (l, q, refl))
 
-    finishes : m.waiting ≡ Nothing → m.left ≡ [] → m.queue ≡ [] → (p.work ≡ 0 → ⊥)
+    finishes : m.waiting ≡ None → m.left ≡ [] → m.queue ≡ [] → (p.work ≡ 0 → ⊥)
         → After p.going said ks (finishing s p)
     finishes e l q work =
         let d : Busy p said ks = ⊎_elim (λ x. x) (λ b. absurd (work b.0)) h.here in
@@ -294,7 +291,7 @@ module _ (s : Setting) where
         (λ j. line_by (sym t.machine j) (sym t.machine j).waiting) ∙ ap (line_by next) i.0
         ∙ (λ j. SettledIn (core j).state) in
         let all : lines s ks ≡ said ++ (line ∷ []) =
-        d.within.written ∙ ap (λ (v : Waiting). said ++ due v (last s ks)) e
+        d.within.written ∙ ap (λ (v : Option Effect). said ++ due v (last s ks)) e
         ∙ ap (λ (x : Entry). said ++ (x ∷ [])) here in
         record {
           stands = record {
@@ -326,16 +323,16 @@ module _ (s : Setting) where
     -- ---- The next line, with no event at work
     module _ (work : p.work ≡ 0) (b : Free p said ks) where
       -- Before the end of the sheet.
-      before : (r : Row) (rs : List Row) → p.rows ≡ r ∷ rs → (p.told ≡ 0) × (lines s ks ≡ said)
+      before : (r : Option Row) (rs : List (Option Row)) → p.rows ≡ r ∷ rs → (p.told ≡ 0) × (lines s ks ≡ said)
       before r rs e = ⊎_elim (λ x. x) (λ x. not-empty p.rows r rs x e) b.early
 
-      rested : (last s ks).waiting ≡ Nothing
+      rested : (last s ks).waiting ≡ None
       rested = ap (λ (l : Model). l.waiting) (sym b.through.machine) ∙ b.idle.0
 
-      begins : (e : Event) (rs : List Row) → p.rows ≡ R.Begin e ∷ rs
+      begins : (e : Event) (rs : List (Option Row)) → p.rows ≡ Some (R.Begin e) ∷ rs
           → After p.going said (Begin e ∷ ks) (silent (onward rs (begun e p)))
       begins e rs r =
-          let f = before (R.Begin e) rs r in
+          let f = before (Some (R.Begin e)) rs r in
           let w = beginning s m n said ks e b.idle b.through f.1 b.effects in
           silently p.going said (Begin e ∷ ks) (onward rs (begun e p))
           record {
@@ -402,7 +399,7 @@ module _ (s : Setting) where
             rested = λ k. rested;
           }))
 
-      passes : (r : Row) (rs : List Row) → p.rows ≡ r ∷ rs → After p.going said ks (silent (onward rs p))
+      passes : (r : Option Row) (rs : List (Option Row)) → p.rows ≡ r ∷ rs → After p.going said ks (silent (onward rs p))
       passes r rs e =
           let free : Free (onward rs p) said ks = record {
             idle = b.idle;
@@ -414,13 +411,13 @@ module _ (s : Setting) where
           silently p.going said ks (onward rs p)
           record { line = omega (arith, h.line); low = h.low; here = inr (work, free) } goes
 
-      refuses : (a : Reply) (rs : List Row) → p.rows ≡ R.Answer a ∷ rs
+      refuses : (a : Reply) (rs : List (Option Row)) → p.rows ≡ Some (R.Answer a) ∷ rs
           → After p.going said ks (silent (stopped 7 p.line p))
       refuses a rs e =
           silently p.going said ks (stopped 7 p.line p) record { line = h.line; low = h.low; here = inr (work, b) }
           (λ x y. record {
             rest = ends ks;
-            first = ap (λ (es : List Entry). es ++ ends ks) (before (R.Answer a) rs e).1;
+            first = ap (λ (es : List Entry). es ++ ends ks) (before (Some (R.Answer a)) rs e).1;
             few = omega arith;
             one = omega (arith, ap length (ends-quiet ks));
             none = λ k. ends-quiet ks;
@@ -430,21 +427,21 @@ module _ (s : Setting) where
             rested = λ k. rested;
           })
 
-      reads : (rs : List Row) → p.rows ≡ rs → length m.core.statuses ≡ length s.chain
+      reads : (rs : List (Option Row)) → p.rows ≡ rs → length m.core.statuses ≡ length s.chain
           → After p.going said (begin_at rs ++ ks) (reading s p rs)
       reads [] r z = tells r z
-      reads (R.Retry k ∷ rs) r z = passes (R.Retry k) rs r
-      reads (R.Card c ∷ rs) r z = passes (R.Card c) rs r
-      reads (R.Begin e ∷ rs) r z = begins e rs r
-      reads (R.Answer a ∷ rs) r z = refuses a rs r
-      reads (R.Bad ∷ rs) r z = passes R.Bad rs r
+      reads (Some (R.Retry k) ∷ rs) r z = passes (Some (R.Retry k)) rs r
+      reads (Some (R.Card c) ∷ rs) r z = passes (Some (R.Card c)) rs r
+      reads (Some (R.Begin e) ∷ rs) r z = begins e rs r
+      reads (Some (R.Answer a) ∷ rs) r z = refuses a rs r
+      reads (None ∷ rs) r z = passes None rs r
 
     -- ---- One step, with a status for each component
     module _ (z : length m.core.statuses ≡ length s.chain) where
       abbrev Steps : Stage → Type 0
       Steps g = After p.going said (call_by g p.work p.rows ++ ks) (step_by s p g)
 
-      rests : m.waiting ≡ Nothing → m.left ≡ [] → m.queue ≡ [] → Steps Rests
+      rests : m.waiting ≡ None → m.left ≡ [] → m.queue ≡ [] → Steps Rests
       rests e l q = by-work (eqb p.work 0) refl
         where
           by-work : (t : Bool) → eqb p.work 0 ≡ t
@@ -454,12 +451,12 @@ module _ (s : Setting) where
               reads free (⊎_elim (λ d. absurd (d.busy free)) (λ b. b.1) h.here) p.rows refl z
           by-work false t = finishes e l q (eqb-false p.work 0 t)
 
-      by-stage : (w : Waiting) (b : List Effect) (q : List Event) → m.waiting ≡ w → m.left ≡ b → m.queue ≡ q
+      by-stage : (w : Option Effect) (b : List Effect) (q : List Event) → m.waiting ≡ w → m.left ≡ b → m.queue ≡ q
           → Steps (stage_by w b q)
-      by-stage (Handed x) b q e l r = waits p.rows x e
-      by-stage Nothing (x ∷ b) q e l r = hands_out x b e l
-      by-stage Nothing [] (v ∷ q) e l r = takes v q e l r
-      by-stage Nothing [] [] e l r = rests e l r
+      by-stage (Some x) b q e l r = waits p.rows x e
+      by-stage None (x ∷ b) q e l r = hands_out x b e l
+      by-stage None [] (v ∷ q) e l r = takes v q e l r
+      by-stage None [] [] e l r = rests e l r
 
       pub step : After p.going said (call_at p ++ ks) (step_from s p)
       unfolding step_from

@@ -1,5 +1,6 @@
 -- The turns of a call under way lead to the machine that the call gives, and to the events that it settles: a turn more leads
 -- there too, and a machine at rest is that machine, with all the events taken.
+use Rattle.std.specs.Prelude.{Option, None, Some}
 use mathlib.Core.Path.{◌≡◌, refl, sym, subst, ap, ◌∙◌}
 use mathlib.Core.List.{List, []}
 use Prim.Native.Nat.{ℕ, zero, suc, ◌+◌, ◌≤◌}
@@ -7,8 +8,6 @@ use native.Mathlib.Omega.{arith}
 use lib.ListN.{length}
 use Rattle.model.specs.declared.Component.{Component}
 use Rattle.model.specs.declared.Event.{Event}
-use Rattle.pending.specs.declared.OptionEvent.{OptionEvent}
-use Rattle.pending.specs.declared.OptionEvent.TheVariants.{NoEvent, OneEvent}
 use Rattle.settling.specs.Settle.{Model, Run, next_event, noted, turned, turns, settle}
 use Rattle.settling.specs.View.{Rests}
 use Rattle.settling.proofs.Ends.{turned-stays}
@@ -18,9 +17,9 @@ pub data Leads (ch : List Component) (max : ℕ) : Run → Run → Type 0 where
   here : {r : Run} → Leads ch max r r
   after : {r q : Run} → Leads ch max (turned ch max r) q → Leads ch max r q
 
-noted_more : (o : OptionEvent) (es : List Event) → length es ≤ length (noted o es)
-noted_more NoEvent es = omega arith
-noted_more (OneEvent e) es = omega arith
+noted_more : (o : Option Event) (es : List Event) → length es ≤ length (noted o es)
+noted_more None es = omega arith
+noted_more (Some e) es = omega arith
 
 module _ (ch : List Component) (max : ℕ) where
   turns-lead : (n : ℕ) (r : Run) → Leads ch max r (turns ch max n r)

@@ -1,5 +1,6 @@
 -- Every run ends, whatever the room and the limit: a run has more steps than there is to do, and each step leaves less to do.
 -- For that at most 512 effects may be left, which is so since one event hands out at most 2 N + 1, with N at most 255.
+use Rattle.std.specs.Prelude.{Option, None, Some}
 use mathlib.Core.Path.{◌≡◌, refl, ap, ◌∙◌}
 use mathlib.Core.Bool.{Bool, true, false}
 use mathlib.Core.List.{List, [], ◌∷◌}
@@ -12,19 +13,15 @@ use Rattle.model.specs.declared.Event.{Event}
 use Rattle.model.specs.declared.Effect.{Effect}
 use Rattle.model.proofs.Pick.{pick_p}
 use Rattle.pending.specs.Queue.{has_room, emits}
-use Rattle.pending.specs.declared.OptionEvent.{OptionEvent}
-use Rattle.pending.specs.declared.OptionEvent.TheVariants.{NoEvent, OneEvent}
 use Rattle.machine.specs.Status.{fresh}
 use Rattle.rot.proofs.Bound.{step-length}
 use Rattle.settling.specs.declared.Reply.{Reply}
 use Rattle.settling.specs.declared.Reply.TheVariants.{Done, Then, Failed}
-use Rattle.settling.specs.declared.Waiting.{Waiting}
-use Rattle.settling.specs.declared.Waiting.TheVariants.{Nothing, Handed}
 use Rattle.settling.specs.Settle.{Model, waiting_is, left_is, enqueue, replied, hand_out, turn_by, turn_of}
 use Rattle.settling.proofs.Views.{never}
 use Rattle.sm.specs.Calls.{start_of}
 use Rattle.lines.specs.declared.Row.{Row}
-use Rattle.lines.specs.declared.Row.TheVariants.{Retry, Card, Begin, Answer, Bad}
+use Rattle.lines.specs.declared.Row.TheVariants.{Retry, Card, Begin, Answer}
 use Rattle.reader.specs.Read.{rows_in, cards_in}
 use Rattle.driver.specs.declared.Stage.{Stage}
 use Rattle.driver.specs.declared.Stage.TheVariants.{Waits, HandsOut, Takes, Rests}
@@ -50,7 +47,7 @@ module _ (s : Setting) (n255 : length s.chain ≤ 255) where
     pub few : length m.left ≤ 512
 
   -- No more effects are left than before.
-  shorter : (m : Model) (es : List Effect) (w : Waiting) (q : List Event) (f : Bool) → length es ≤ length m.left → Fits m
+  shorter : (m : Model) (es : List Effect) (w : Option Effect) (q : List Event) (f : Bool) → length es ≤ length m.left → Fits m
       → Fits record { core = m.core; waiting = w; left = es; queue = q; failed = f }
   shorter m es w q f l h = record { statuses = h.statuses; reached = h.reached; few = omega (arith, l, h.few) }
 
@@ -65,21 +62,21 @@ module _ (s : Setting) (n255 : length s.chain ≤ 255) where
   replied-fits Failed m h =
       pick_p Fits m.failed (λ t. shorter m [] _ _ _ (omega arith) h) (λ t. shorter m [] _ _ _ (omega arith) h)
 
-  hand-fits : (x : Effect) (es : List Effect) (m : Model) (o : OptionEvent) → length es ≤ length m.left → Fits m
+  hand-fits : (x : Effect) (es : List Effect) (m : Model) (o : Option Event) → length es ≤ length m.left → Fits m
       → Fits (hand_out x es m o)
-  hand-fits x es m NoEvent l h = shorter m es (Handed x) _ _ l h
-  hand-fits x es m (OneEvent e) l h = enqueue-fits e (left_is es m) (shorter m es _ _ _ l h)
+  hand-fits x es m None l h = shorter m es (Some x) _ _ l h
+  hand-fits x es m (Some e) l h = enqueue-fits e (left_is es m) (shorter m es _ _ _ l h)
 
-  turn-fits-by : (m : Model) (w : Waiting) (es : List Effect) (q : List Event) → m.left ≡ es → Fits m
+  turn-fits-by : (m : Model) (w : Option Effect) (es : List Effect) (q : List Event) → m.left ≡ es → Fits m
       → Fits (turn_by ch max m w es q)
-  turn-fits-by m (Handed x) es q l h = h
-  turn-fits-by m Nothing (x ∷ es) q l h = hand-fits x es m (emits x) (omega (arith, ap length l)) h
-  turn-fits-by m Nothing [] (e ∷ q) l h = record {
+  turn-fits-by m (Some x) es q l h = h
+  turn-fits-by m None (x ∷ es) q l h = hand-fits x es m (emits x) (omega (arith, ap length l)) h
+  turn-fits-by m None [] (e ∷ q) l h = record {
     statuses = step-length ch max m.core e h.statuses ∙ h.statuses;
     reached = step-reached ch max m.core e h.reached;
     few = omega (arith, n255, step-few ch max m.core e h.reached h.statuses);
   }
-  turn-fits-by m Nothing [] [] l h = shorter m m.left _ _ _ (omega arith) h
+  turn-fits-by m None [] [] l h = shorter m m.left _ _ _ (omega arith) h
 
   turn-fits : (m : Model) → Fits m → Fits (turn_of ch max m)
   turn-fits m h = turn-fits-by m m.waiting m.left m.queue refl h
@@ -89,29 +86,29 @@ module _ (s : Setting) (n255 : length s.chain ≤ 255) where
   abbrev Kept : Step → Type 0
   Kept t = Fits t.point.machine
 
-  answering-fits : (p : Point) (rs : List Row) → Fits p.machine → Fits (answering p rs).machine
+  answering-fits : (p : Point) (rs : List (Option Row)) → Fits p.machine → Fits (answering p rs).machine
   answering-fits p rs h = by_row rs
     where
-      reply : (a : Reply) → Fits (replied a (waiting_is Nothing p.machine))
+      reply : (a : Reply) → Fits (replied a (waiting_is None p.machine))
       reply a =
-          replied-fits a (waiting_is Nothing p.machine)
-          (shorter p.machine p.machine.left Nothing _ _ (omega arith) h)
+          replied-fits a (waiting_is None p.machine)
+          (shorter p.machine p.machine.left None _ _ (omega arith) h)
 
-      by_row : (rs : List Row) → Fits (answering p rs).machine
+      by_row : (rs : List (Option Row)) → Fits (answering p rs).machine
       by_row [] = reply Done
-      by_row (Retry n ∷ rs) = reply Done
-      by_row (Card c ∷ rs) = reply Done
-      by_row (Begin e ∷ rs) = reply Done
-      by_row (Answer a ∷ rs) = reply a
-      by_row (Bad ∷ rs) = reply Done
+      by_row (Some (Retry n) ∷ rs) = reply Done
+      by_row (Some (Card c) ∷ rs) = reply Done
+      by_row (Some (Begin e) ∷ rs) = reply Done
+      by_row (Some (Answer a) ∷ rs) = reply a
+      by_row (None ∷ rs) = reply Done
 
-  reading-fits : (p : Point) (rs : List Row) → Fits p.machine → Kept (reading s p rs)
+  reading-fits : (p : Point) (rs : List (Option Row)) → Fits p.machine → Kept (reading s p rs)
   reading-fits p [] h = pick_p Kept (ltb p.told (length ch)) (λ t. h) (λ t. h)
-  reading-fits p (Retry n ∷ rs) h = h
-  reading-fits p (Card c ∷ rs) h = h
-  reading-fits p (Begin e ∷ rs) h = enqueue-fits e p.machine h
-  reading-fits p (Answer a ∷ rs) h = h
-  reading-fits p (Bad ∷ rs) h = h
+  reading-fits p (Some (Retry n) ∷ rs) h = h
+  reading-fits p (Some (Card c) ∷ rs) h = h
+  reading-fits p (Some (Begin e) ∷ rs) h = enqueue-fits e p.machine h
+  reading-fits p (Some (Answer a) ∷ rs) h = h
+  reading-fits p (None ∷ rs) h = h
 
   step-by-fits : (p : Point) (g : Stage) → Fits p.machine → Kept (step_by s p g)
   step-by-fits p Waits h = answering-fits p p.rows h
@@ -124,7 +121,7 @@ module _ (s : Setting) (n255 : length s.chain ≤ 255) where
   unfolding step_from
   step_fits p h = step-by-fits p (stage_of p.machine) h
 
-  pub start_fits : (rs : List Row) → Fits (start_point ch rs).machine
+  pub start_fits : (rs : List (Option Row)) → Fits (start_point ch rs).machine
   unfolding start_point start_of
   start_fits rs = record { statuses = length-replicate (length ch) fresh; reached = start-reached ch; few = omega arith }
 
@@ -158,7 +155,7 @@ module _ (s : Setting) (n255 : length s.chain ≤ 255) where
         (records k p.said p.point g h.machine (h.less g)))
         (λ g. g)
 
-    run_ends : (rs : List Row) → (run_from s room (start_point ch rs)).point.going ≡ false
+    run_ends : (rs : List (Option Row)) → (run_from s room (start_point ch rs)).point.going ≡ false
     unfolding run_from
     run_ends rs =
         steps-end (suc (to_do s (start_point ch rs))) record { point = start_point ch rs; said = [] }

@@ -1,7 +1,7 @@
 -- Section 4: the X lines of a run are, in order, the first effects that a history of step calls hands out. Section 5: its S
 -- and T lines are those of the machine after these calls, and it settles the events that they settle, up to the limit. Which
 -- calls these are, the lists of effects and of lines, and what is said of them.
-use Rattle.std.specs.Prelude.{◌≡◌, false, List, [], ◌∷◌, ◌++◌, ℕ, zero, suc, ◌≤◌, ◌<◌, eqb, length}
+use Rattle.std.specs.Prelude.{◌≡◌, false, List, [], ◌∷◌, ◌++◌, ℕ, zero, suc, ◌≤◌, ◌<◌, eqb, length, Option, None, Some}
 use Rattle.model.specs.Vocabulary.{pick}
 use Rattle.model.specs.declared.Component.{Component}
 use Rattle.model.specs.declared.Effect.{Effect}
@@ -9,8 +9,6 @@ use Rattle.components.specs.Chain.{no_entries}
 use Rattle.settling.specs.declared.Machine.{Machine}
 use Rattle.settling.specs.declared.Reply.{Reply}
 use Rattle.settling.specs.declared.Reply.TheVariants.{Done}
-use Rattle.settling.specs.declared.Waiting.{Waiting}
-use Rattle.settling.specs.declared.Waiting.TheVariants.{Nothing, Handed}
 use Rattle.settling.specs.Settle.{Model}
 use Rattle.lines.specs.declared.Row.{Row}
 use Rattle.lines.specs.declared.Row.TheVariants as R
@@ -26,25 +24,25 @@ use Rattle.rows.specs.Rows.{t_lines}
 -- ---- The calls of a run, the newest first as in a history
 
 -- An effect waits for the next line; if that isn't an R line, the reply is ok.
-abbrev pub reply_at : List Row → Reply
+abbrev pub reply_at : List (Option Row) → Reply
 reply_at [] = Done
-reply_at (R.Retry n ∷ rs) = Done
-reply_at (R.Card c ∷ rs) = Done
-reply_at (R.Begin e ∷ rs) = Done
-reply_at (R.Answer a ∷ rs) = a
-reply_at (R.Bad ∷ rs) = Done
+reply_at (Some (R.Retry n) ∷ rs) = Done
+reply_at (Some (R.Card c) ∷ rs) = Done
+reply_at (Some (R.Begin e) ∷ rs) = Done
+reply_at (Some (R.Answer a) ∷ rs) = a
+reply_at (None ∷ rs) = Done
 
 -- With no event at work, an E line begins its event.
-abbrev pub begin_at : List Row → List Call
+abbrev pub begin_at : List (Option Row) → List Call
 begin_at [] = []
-begin_at (R.Retry n ∷ rs) = []
-begin_at (R.Card c ∷ rs) = []
-begin_at (R.Begin e ∷ rs) = Begin e ∷ []
-begin_at (R.Answer a ∷ rs) = []
-begin_at (R.Bad ∷ rs) = []
+begin_at (Some (R.Retry n) ∷ rs) = []
+begin_at (Some (R.Card c) ∷ rs) = []
+begin_at (Some (R.Begin e) ∷ rs) = Begin e ∷ []
+begin_at (Some (R.Answer a) ∷ rs) = []
+begin_at (None ∷ rs) = []
 
 -- The call that a step makes, or none.
-abbrev pub call_by : Stage → ℕ → List Row → List Call
+abbrev pub call_by : Stage → ℕ → List (Option Row) → List Call
 call_by Waits work rs = ReplyTo (reply_at rs) ∷ []
 call_by HandsOut work rs = []
 call_by Takes work rs = []
@@ -85,9 +83,9 @@ handed_out (HandedOut x ∷ log) = handed_out log ++ (x ∷ [])
 -- ---- Lines, the oldest first too
 
 -- The line of a call: an X line for the effect that it gives, or, where no effect waits, an S line for the machine after it.
-abbrev pub line_by : Model → Waiting → Entry
-line_by m (Handed x) = Effected x
-line_by m Nothing = SettledIn m.core.state
+abbrev pub line_by : Model → Option Effect → Entry
+line_by m (Some x) = Effected x
+line_by m None = SettledIn m.core.state
 
 -- The lines of a list of calls that were answered so, one for each call.
 unfoldable pub call_lines : List Component → ℕ → List Call → List Answered → List Entry
@@ -158,7 +156,7 @@ module _ (s : List ℕ) (room limit : ℕ) (rs : List Answered) where
   -- Also no call is refused, and a run that ends with 0 leaves no effect waiting.
   pub record Tied : Type 0 where
     pub granted : Granted rs
-    pub rested : (run_of s room limit).number ≡ 0 → (machine_after (chain_in s) (retry_in s) (calls_of s room limit)).waiting ≡ Nothing
+    pub rested : (run_of s room limit).number ≡ 0 → (machine_after (chain_in s) (retry_in s) (calls_of s room limit)).waiting ≡ None
     pub effects : FirstOf
     pub lines : LinesOf
     pub settled : CountOf

@@ -1,5 +1,6 @@
 -- The ten rows of 01 in one table, and what it is for them to be right.
-use Rattle.std.specs.Prelude.{◌≡◌, false, List, [], ◌∷◌, ◌++◌, map, ℕ, zero, suc, ◌+◌, eqb, length, take}
+use Rattle.std.specs.Prelude.{◌≡◌, false, List, [], ◌∷◌, ◌++◌, map, ℕ, zero, suc, ◌+◌, eqb, length, take, Option, None, Some}
+use Rattle.model.specs.declared.Effect.{Effect}
 use Prim.Native.String.{String}
 use Rattle.model.specs.Vocabulary.{pick, id_of, plain_attrs, depending_on}
 use Rattle.model.specs.declared.Component.{Component}
@@ -15,8 +16,6 @@ use Rattle.machine.specs.declared.ComponentStatus.{ComponentStatus}
 use Rattle.machine.specs.Status.{fresh, lift, retry_is}
 use Rattle.machine.specs.View.{Core}
 use Rattle.settling.specs.declared.Reply.TheVariants.{Done}
-use Rattle.settling.specs.declared.Waiting.{Waiting}
-use Rattle.settling.specs.declared.Waiting.TheVariants.{Nothing, Handed}
 use Rattle.settling.specs.Settle.{Model}
 use Rattle.sm.specs.Calls.{Expected, begin_of, reply_of}
 use Rattle.text.specs.Text.{bytes, line}
@@ -61,9 +60,9 @@ t_lines (c ∷ cs) (s ∷ ss) = Told c.id s ∷ t_lines cs ss
 
 -- What a step call gave, put before what the calls after it give: an X line if an effect waits. If none does it was the last
 -- call: an S line and the T lines end the transcript. The number is the first that is not 0.
-abbrev pub called_by : List Component → Expected → Outcome → Waiting → Outcome
-called_by ch r o (Handed x) = record { number = pick (eqb r.number 0) o.number r.number; place = 0; other = 0; settled = length r.settled + o.settled; said = Effected x ∷ o.said }
-called_by ch r o Nothing = record { number = r.number; place = 0; other = 0; settled = length r.settled; said = SettledIn r.machine.core.state ∷ t_lines ch r.machine.core.statuses }
+abbrev pub called_by : List Component → Expected → Outcome → Option Effect → Outcome
+called_by ch r o (Some x) = record { number = pick (eqb r.number 0) o.number r.number; place = 0; other = 0; settled = length r.settled + o.settled; said = Effected x ∷ o.said }
+called_by ch r o None = record { number = r.number; place = 0; other = 0; settled = length r.settled; said = SettledIn r.machine.core.state ∷ t_lines ch r.machine.core.statuses }
 
 -- What a step call gave and what at most n - 1 more give, each of which answers Done to the effect that waits. Where they are
 -- too few, the S line is missing.
@@ -72,7 +71,7 @@ calls ch max zero r = record { number = 0; place = 0; other = 0; settled = 0; sa
 calls ch max (suc n) r = called_by ch r (calls ch max n (reply_of ch max r.machine Done)) r.effect
 
 abbrev pub resting : Core → Model
-resting c = record { core = c; waiting = Nothing; left = []; queue = []; failed = false }
+resting c = record { core = c; waiting = None; left = []; queue = []; failed = false }
 
 abbrev pub judged : C.Answer → Answer
 judged a = refusal a.number a.place a.other

@@ -2,6 +2,7 @@
 -- Each Emit of the batch costs one turn, and leaves at most 8 events queued. Then each event taken shortens the queue,
 -- and its effects are none, so that the next event is taken, or begin with one that is handed out (step-opens). At rest a
 -- turn changes nothing, so that more turns give the same.
+use Rattle.std.specs.Prelude.{Option, None, Some}
 use mathlib.Core.Path.{◌≡◌, refl, sym, subst, ap, ◌∙◌}
 use mathlib.Core.Bool.{Bool, true, false}
 use mathlib.Core.List.{List, [], ◌∷◌, ◌++◌}
@@ -14,13 +15,9 @@ use Rattle.model.specs.declared.Event.{Event}
 use Rattle.model.specs.declared.Effect.{Effect}
 use Rattle.model.proofs.Pick.{pick_p}
 use Rattle.pending.specs.Queue.{has_room, latched, emits}
-use Rattle.pending.specs.declared.OptionEvent.{OptionEvent}
-use Rattle.pending.specs.declared.OptionEvent.TheVariants.{NoEvent, OneEvent}
 use Rattle.machine.specs.View.{Core}
 use Rattle.rot.specs.Step.{step_of}
 use Rattle.shape.proofs.Shape.{Opens, step-opens}
-use Rattle.settling.specs.declared.Waiting.{Waiting}
-use Rattle.settling.specs.declared.Waiting.TheVariants.{Nothing, Handed}
 use Rattle.settling.specs.Settle.{Model, left_is, latch, fail, enqueue, hand_out, turn_by, turn_of, taken_by, next_event, Run, noted, turned, turns, settle}
 use Rattle.settling.specs.View.{RestsBy, Rests}
 
@@ -42,47 +39,42 @@ enqueue-few e m h =
     (λ t. pick_p Few m.failed (λ u. h) (λ u. latch-few m))
 
 -- What the next effect x becomes, by the event that it queues.
-hand-few : (x : Effect) (es : List Effect) (m : Model) (o : OptionEvent) → Few m → Few (hand_out x es m o)
-hand-few x es m NoEvent h = h
-hand-few x es m (OneEvent e) h = enqueue-few e (left_is es m) h
+hand-few : (x : Effect) (es : List Effect) (m : Model) (o : Option Event) → Few m → Few (hand_out x es m o)
+hand-few x es m None h = h
+hand-few x es m (Some e) h = enqueue-few e (left_is es m) h
 
 -- At rest no event is taken.
-takes-by : (w : Waiting) (es : List Effect) (q : List Event) (f : Bool) → RestsBy w es q f → taken_by w es q ≡ NoEvent
-takes-by (Handed x) es q f h = refl
-takes-by Nothing (x ∷ es) q f h = refl
-takes-by Nothing [] (e ∷ q) f h = let p : e ∷ q ≡ [] = h.1 in let z : ◌≡◌ {A = ℕ} 0 1 = cc in absurd (omega arith)
-takes-by Nothing [] [] f h = refl
+takes-by : (w : Option Effect) (es : List Effect) (q : List Event) (f : Bool) → RestsBy w es q f → taken_by w es q ≡ None
+takes-by (Some x) es q f h = refl
+takes-by None (x ∷ es) q f h = refl
+takes-by None [] (e ∷ q) f h = cc
+takes-by None [] [] f h = refl
 
-pub rest-takes : (m : Model) → Rests m → next_event m ≡ NoEvent
+pub rest-takes : (m : Model) → Rests m → next_event m ≡ None
 rest-takes m h = takes-by m.waiting m.left m.queue m.failed h
 
 -- By the event that an effect queues.
-by-event : (P : OptionEvent → Type 0) (o : OptionEvent) → (o ≡ NoEvent → P NoEvent) → ((e : Event) → P (OneEvent e)) → P o
-by-event P NoEvent h k = h refl
-by-event P (OneEvent e) h k = k e
+by-event : (P : Option Event → Type 0) (o : Option Event) → (o ≡ None → P None) → ((e : Event) → P (Some e)) → P o
+by-event P None h k = h refl
+by-event P (Some e) h k = k e
 
 module _ (ch : List Component) (max : ℕ) where
-  few-by : (m : Model) (w : Waiting) (es : List Effect) (q : List Event) → m.queue ≡ q → Few m → Few (turn_by ch max m w es q)
-  few-by m (Handed x) es q s h = h
-  few-by m Nothing (x ∷ es) q s h = hand-few x es m (emits x) h
-  few-by m Nothing [] (e ∷ q) s h = omega (arith, ap length s)
-  few-by m Nothing [] [] s h = h
+  few-by : (m : Model) (w : Option Effect) (es : List Effect) (q : List Event) → m.queue ≡ q → Few m → Few (turn_by ch max m w es q)
+  few-by m (Some x) es q s h = h
+  few-by m None (x ∷ es) q s h = hand-few x es m (emits x) h
+  few-by m None [] (e ∷ q) s h = omega (arith, ap length s)
+  few-by m None [] [] s h = h
 
   pub turn-few : (m : Model) → Few m → Few (turn_of ch max m)
   turn-few m h = few-by m m.waiting m.left m.queue refl h
 
-  pub turns-few : (n : ℕ) (r : Run) → Few r.machine → Few (turns ch max n r).machine
-  unfolding turns
-  turns-few zero r h = h
-  turns-few (suc n) r h = turns-few n (turned ch max r) (turn-few r.machine h)
-
   -- ---- At rest
   -- At rest there is nothing to hand out and no event to take; the end sets the failure back, which it is already.
-  stays_by : (m : Model) (w : Waiting) (es : List Effect) (q : List Event) → RestsBy w es q m.failed → turn_by ch max m w es q ≡ m
-  stays_by m (Handed x) es q h = refl
-  stays_by m Nothing (x ∷ es) q h = let p : x ∷ es ≡ [] = h.0 in let z : ◌≡◌ {A = ℕ} 0 1 = cc in absurd (omega arith)
-  stays_by m Nothing [] (e ∷ q) h = let p : e ∷ q ≡ [] = h.1 in let z : ◌≡◌ {A = ℕ} 0 1 = cc in absurd (omega arith)
-  stays_by m Nothing [] [] h = λ k. record { core = m.core; waiting = m.waiting; left = m.left; queue = m.queue; failed = sym h.2 k }
+  stays_by : (m : Model) (w : Option Effect) (es : List Effect) (q : List Event) → RestsBy w es q m.failed → turn_by ch max m w es q ≡ m
+  stays_by m (Some x) es q h = refl
+  stays_by m None (x ∷ es) q h = cc
+  stays_by m None [] (e ∷ q) h = cc
+  stays_by m None [] [] h = λ k. record { core = m.core; waiting = m.waiting; left = m.left; queue = m.queue; failed = sym h.2 k }
 
   pub turn-stays : (m : Model) → Rests m → turn_of ch max m ≡ m
   turn-stays m h = stays_by m m.waiting m.left m.queue h
@@ -123,19 +115,19 @@ module _ (ch : List Component) (max : ℕ) where
 
   -- A machine in which no effect waits.
   abbrev idle : Core → List Effect → List Event → Bool → Model
-  idle c es q f = record { core = c; waiting = Nothing; left = es; queue = q; failed = f }
+  idle c es q f = record { core = c; waiting = None; left = es; queue = q; failed = f }
 
   -- A machine that waits for an effect other than Emit has ended.
   waits : (n : ℕ) (c : Core) (x : Effect) (es : List Effect) (q : List Event) (f : Bool) (t : List Event)
-      → emits x ≡ NoEvent → length t ≤ 8 → Within n t record { core = c; waiting = Handed x; left = es; queue = q; failed = f }
-  waits n c x es q f t p h = ended-stays n record { machine = record { core = c; waiting = Handed x; left = es; queue = q; failed = f }; settled = t } (p, h)
+      → emits x ≡ None → length t ≤ 8 → Within n t record { core = c; waiting = Some x; left = es; queue = q; failed = f }
+  waits n c x es q f t p h = ended-stays n record { machine = record { core = c; waiting = Some x; left = es; queue = q; failed = f }; settled = t } (p, h)
 
   -- Effects that begin with no Emit are none, or the first is handed out in one turn.
   opened : (n : ℕ) (c : Core) (es : List Effect) (q : List Event) (f : Bool) (t : List Event)
       → Opens es → length t ≤ 8 → Within (suc n) t (idle c [] q f) → Within (suc n) t (idle c es q f)
   unfolding turns
   opened n c [] q f t o h k = k
-  opened n c (x ∷ es) q f t o h k = subst (λ (g : OptionEvent). Within n t (hand_out x es (idle c (x ∷ es) q f) g)) (sym o) (waits n c x es q f t o h)
+  opened n c (x ∷ es) q f t o h k = subst (λ (g : Option Event). Within n t (hand_out x es (idle c (x ∷ es) q f) g)) (sym o) (waits n c x es q f t o h)
 
   -- With nothing left of the batch: one turn for each event, and one for the end.
   drains : (n : ℕ) (c : Core) (q : List Event) (f : Bool) (t : List Event) → length q ≤ n → length t + length q ≤ 8 → Within (suc n) t (idle c [] q f)
@@ -153,32 +145,27 @@ module _ (ch : List Component) (max : ℕ) where
   ends_by zero c es q f h l = absurd (omega arith)
   ends_by (suc n) c [] q f h l = drains n c q f [] (omega arith) (omega arith)
   ends_by (suc n) c (x ∷ es) q f h l =
-      by-event (λ (o : OptionEvent). Within n [] (hand_out x es (idle c (x ∷ es) q f) o)) (emits x)
+      by-event (λ (o : Option Event). Within n [] (hand_out x es (idle c (x ∷ es) q f) o)) (emits x)
       (λ p. waits n c x es q f [] p (omega arith))
       (λ e. pick_p (Within n []) (has_room q)
       (λ t. ends_by n c es (q ++ (e ∷ [])) f (omega (arith, length-append q (e ∷ []), ltb-true (length q) 8 t)) (omega arith))
       (λ t. pick_p (Within n []) f (λ u. ends_by n c es q f h (omega arith)) (λ u. ends_by n c [] (latched q) true (omega (arith, length-take 7 q)) (omega arith))))
 
   -- The same of any machine in which no effect waits.
-  ends : (n : ℕ) (m : Model) → m.waiting ≡ Nothing → Few m → length m.left + 9 ≤ n → Within n [] m
+  ends : (n : ℕ) (m : Model) → m.waiting ≡ None → Few m → length m.left + 9 ≤ n → Within n [] m
   ends n m w h l =
-      subst (λ (u : Waiting). Within n [] record { core = m.core; waiting = u; left = m.left; queue = m.queue; failed = m.failed }) (sym w)
+      subst (λ (u : Option Effect). Within n [] record { core = m.core; waiting = u; left = m.left; queue = m.queue; failed = m.failed }) (sym w)
       (ends_by n m.core m.left m.queue m.failed h l)
 
 -- ---- What holds of settling
 -- It ends at rest, with at most 8 events taken,
-pub settle-ends : (ch : List Component) (max : ℕ) (m : Model) → m.waiting ≡ Nothing → length m.queue ≤ 8
+pub settle-ends : (ch : List Component) (max : ℕ) (m : Model) → m.waiting ≡ None → length m.queue ≤ 8
     → Rests (settle ch max m).machine × (length (settle ch max m).settled ≤ 8)
 unfolding settle
 settle-ends ch max m w h = ends ch max (length m.left + 9) m w h (omega arith)
 
--- with at most 8 events queued,
-pub settle-few : (ch : List Component) (max : ℕ) (m : Model) → length m.queue ≤ 8 → length (settle ch max m).machine.queue ≤ 8
-unfolding settle
-settle-few ch max m h = turns-few ch max (length m.left + 9) record { machine = m; settled = [] } h
-
 -- and more turns give the same.
-pub settle-turns : (ch : List Component) (max : ℕ) (m : Model) → m.waiting ≡ Nothing → length m.queue ≤ 8 → (n : ℕ) → length m.left + 9 ≤ n
+pub settle-turns : (ch : List Component) (max : ℕ) (m : Model) → m.waiting ≡ None → length m.queue ≤ 8 → (n : ℕ) → length m.left + 9 ≤ n
     → turns ch max n record { machine = m; settled = [] } ≡ settle ch max m
 unfolding settle
 settle-turns ch max m w h n l =

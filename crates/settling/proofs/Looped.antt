@@ -1,16 +1,16 @@
 -- The loop of `settle`: as many turns as it took give what the definition gives.
+use Rattle.std.specs.Prelude.{Option, None, Some}
+use Rattle.model.specs.declared.Effect.{Effect}
 use Prim.Native.Nat.{ℕ, zero, suc, ◌+◌, ◌≤◌}
 use native.Mathlib.Numerals.{add-one}
 use native.Mathlib.Omega.{arith}
 use mathlib.Core.Path.{◌≡◌, refl, sym, ap, ◌∙◌}
 use mathlib.Core.List.{List, []}
-use lib.ListN.{length, take, length-drop, length-map, length-take}
+use lib.ListN.{length, length-drop, length-take}
 use Rattle.model.specs.declared.Component.{Component}
 use Rattle.chain.specs.Tables.{entries}
-use Rattle.store.specs.Sink.{effect_of, held}
+use Rattle.store.specs.Sink.{held}
 use Rattle.settling.specs.declared.Machine.{Machine}
-use Rattle.settling.specs.declared.Waiting.{Waiting}
-use Rattle.settling.specs.declared.Waiting.TheVariants.{Nothing, Handed}
 use Rattle.settling.specs.Settle.{Model, Run, turn_by, turn_of, turned, turns, settle}
 use Rattle.settling.specs.View.{view, chain_of, Whole, Becomes}
 use Rattle.settling.specs.Parts.{Rested}
@@ -49,18 +49,18 @@ module _ (ch : List Component) (max : ℕ) where
 -- At most 512 effects are left, so that 521 turns are enough.
 left-few : (m : Machine) → Whole m → length (view m).left ≤ 512
 unfolding view held
-left-few m w = omega (arith, w.room, length-drop m.dispatch.next (held m.work.sink), length-map (take m.work.sink.len m.work.sink.effects) effect_of, length-take m.work.sink.len m.work.sink.effects)
+left-few m w = omega (arith, w.room, length-drop m.dispatch.next (held m.work.sink), length-take m.work.sink.len m.work.sink.effects)
 
 -- While an effect waits, no number of turns changes anything.
-enough-by : (m : Machine) → Whole m → (w : Waiting) → m.dispatch.waiting ≡ w → turning m 521 ≡ (settle (chain_of m) m.max_retry (view m)).machine
+enough-by : (m : Machine) → Whole m → (w : Option Effect) → m.dispatch.waiting ≡ w → turning m 521 ≡ (settle (chain_of m) m.max_retry (view m)).machine
 unfolding settle
-enough-by m w Nothing h = ap (λ (r : Run). r.machine) (settle-turns (chain_of m) m.max_retry (view m) (view-waiting m ∙ h) (view-few m w) 521 (omega (arith, left-few m w)))
-enough-by m w (Handed x) h =
+enough-by m w None h = ap (λ (r : Run). r.machine) (settle-turns (chain_of m) m.max_retry (view m) (view-waiting m ∙ h) (view-few m w) 521 (omega (arith, left-few m w)))
+enough-by m w (Some x) h =
     let ch = chain_of m in
     let max = m.max_retry in
     let v = view m in
     let start : Run = record { machine = v; settled = [] } in
-    let still : turn_of ch max v ≡ v = ap (λ (u : Waiting). turn_by ch max v u v.left v.queue) (view-waiting m ∙ h) in
+    let still : turn_of ch max v ≡ v = ap (λ (u : Option Effect). turn_by ch max v u v.left v.queue) (view-waiting m ∙ h) in
     fixed ch max 521 start still ∙ sym (fixed ch max (length v.left + 9) start still)
 
 pub turned-enough : (m : Machine) → Whole m → turning m 521 ≡ (settle (chain_of m) m.max_retry (view m)).machine

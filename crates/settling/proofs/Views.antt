@@ -1,11 +1,13 @@
 -- The code's machine and how it is read: what each change of a field does to the view.
+use Rattle.std.specs.Prelude.{Option, None, Some}
+use Rattle.std.specs.Option.{is_some}
 use Prim.Native.Nat.{ℕ, ◌+◌, ◌<◌, ◌≤◌}
 use native.Mathlib.Numerals.{add-one}
 use native.Mathlib.Omega.{arith}
 use mathlib.Core.Path.{◌≡◌, refl, sym, ap, ◌∙◌, subst}
 use mathlib.Core.Bool.{Bool, true, false}
 use mathlib.Core.List.{List, [], ◌∷◌, ◌++◌}
-use lib.ListN.{length, take, drop, length-take, length-map, drop_of_length-le}
+use lib.ListN.{length, drop, length-take, drop_of_length-le}
 use lib.Seq.{drop-cons}
 use borrow.Author.Tests.{lt-ltb, le-ltb}
 use Rattle.model.specs.Vocabulary.{pick}
@@ -15,29 +17,22 @@ use Rattle.model.specs.declared.Effect.{Effect}
 use Rattle.model.specs.declared.Effect.TheVariants.{LatchLockdown}
 use Rattle.chain.specs.declared.Chain.{Chain}
 use Rattle.chain.specs.Tables.{size}
-use Rattle.store.specs.Sink.{effect_of, held, effect_at}
+use Rattle.store.specs.Sink.{held, effect_at}
 use Rattle.store.proofs.Laws.{at_held}
 use Rattle.pending.specs.declared.Pending.{Pending}
-use Rattle.pending.specs.declared.OptionEvent.{OptionEvent}
-use Rattle.pending.specs.declared.OptionEvent.TheVariants.{NoEvent, OneEvent}
-use Rattle.pending.specs.Queue.{events, first_of, rest, at_back, emits}
+use Rattle.pending.specs.Queue.{events, first_of, rest}
 use Rattle.machine.specs.declared.Work.{Work}
 use Rattle.machine.specs.View.{Core}
 use Rattle.entry.specs.Premise.{Sane}
 use Rattle.rot.specs.Stepped.{bare, Stepped}
 use Rattle.settling.specs.declared.Dispatch.{Dispatch}
 use Rattle.settling.specs.declared.Machine.{Machine}
-use Rattle.settling.specs.declared.Waiting.{Waiting}
-use Rattle.settling.specs.declared.Waiting.TheVariants.{Nothing, Handed}
-use Rattle.settling.specs.Settle.{Model, waiting_is, left_is, queue_is, failed_is, latch, fail, enqueue, hand_out, front_taken, turn_by, turn_of, taken_by, next_event}
-use Rattle.settling.specs.View.{view, within, chain_of, Short, Whole, Becomes}
-use Rattle.settling.specs.Parts.{waits, Moves, Taken}
+use Rattle.settling.specs.Settle.{Model, left_is, queue_is, latch, fail, enqueue, front_taken, turn_by, turn_of, taken_by, next_event}
+use Rattle.settling.specs.View.{view, within, chain_of, Whole, Becomes}
+use Rattle.settling.specs.Parts.{Moves, Taken}
 use Rattle.settling.proofs.Ends.{Few}
 
--- A dispatch with another place in its batch, another queue and another mark of failure; a machine with another dispatch.
-abbrev pub nexts : ℕ → Dispatch → Dispatch
-nexts k d = record { next = k; waiting = d.waiting; pending = d.pending; failed = d.failed }
-
+-- A dispatch with another queue and another mark of failure; a machine with another dispatch, or another work too.
 abbrev pub pends : Pending → Bool → Dispatch → Dispatch
 pends p b d = record { next = d.next; waiting = d.waiting; pending = p; failed = b }
 
@@ -81,28 +76,15 @@ becomes-then f a b = record { machine = b.machine ∙ ap f a.machine; chain = b.
 pub becomes-same : (m : Machine) → Whole m → Becomes m (view m) m
 becomes-same m w = record { machine = refl; chain = refl; max_retry = refl; whole = w }
 
--- What is done to a dispatch, one after the other or in other words.
-module _ {len : ℕ} where
-  pub moves-as : {f g : List Effect → Model → Model} {d r : Dispatch} → Moves len f d r → ((c : Core) (es : List Effect) → f es (within c es d) ≡ g es (within c es d)) → Moves len g d r
-  moves-as b e = record { machine = λ c es h. b.machine c es h ∙ e c es; few = b.few }
-
-  pub moves-then : {f : List Effect → Model → Model} {d v r : Dispatch} (g : List Effect → Model → Model) → Moves len f d v → Moves len g v r → Moves len (λ es x. g es (f es x)) d r
-  moves-then g a b = record { machine = λ c es h. b.machine c es h ∙ ap (g es) (a.machine c es h); few = b.few }
-
-  pub moves-same : (d : Dispatch) → Short d → Moves len (λ es x. x) d d
-  moves-same d h = record { machine = λ c es k. refl; few = h }
-
-  pub waits-moves : (d v : Dispatch) → Short d → (u : Waiting) → v ≡ waits u d → Moves len (λ es. waiting_is u) d v
-  waits-moves d v h u e = record { machine = λ c es k. ap (within c es) e; few = subst Short (sym e) h }
-
-  pub pends-moves : (d : Dispatch) (p : Pending) (b : Bool) (f : List Event → List Event) → events p ≡ f (events d.pending) → length (f (events d.pending)) ≤ 8 → Moves len (λ es x. failed_is b (queue_is (f x.queue) x)) d (pends p b d)
-  pends-moves d p b f e h = record { machine = λ c es k. ap (λ (l : List Event). failed_is b (queue_is l (within c es d))) e; few = subst (λ (l : List Event). length l ≤ 8) (sym e) h }
+-- What is done to a dispatch, in other words.
+pub moves-as : {len : ℕ} {f g : List Effect → Model → Model} {d r : Dispatch} → Moves len f d r → ((c : Core) (es : List Effect) → f es (within c es d) ≡ g es (within c es d)) → Moves len g d r
+moves-as b e = record { machine = λ c es h. b.machine c es h ∙ e c es; few = b.few }
 
 module _ (m : Machine) (w : Whole m) where
   -- Nothing is left of a batch whose end is reached, and else the next effect and those after it.
   held-short : length (held m.work.sink) ≤ m.work.sink.len
   unfolding held
-  held-short = omega (arith, length-map (take m.work.sink.len m.work.sink.effects) effect_of, length-take m.work.sink.len m.work.sink.effects)
+  held-short = omega (arith, length-take m.work.sink.len m.work.sink.effects)
 
   pub moves-becomes : (f : List Effect → Model → Model) (r : Dispatch) → Moves m.work.sink.len f m.dispatch r → Becomes m (f (held m.work.sink) (view m)) (puts r m)
   unfolding view
@@ -126,42 +108,38 @@ module _ (e : Event) (x : Model) where
   enqueue-full : 8 ≤ length x.queue → enqueue e x ≡ pick x.failed x (latch x)
   enqueue-full h = ap (λ (b : Bool). pick b (queue_is (x.queue ++ (e ∷ [])) x) (pick x.failed x (latch x))) (le-ltb (length x.queue) 8 h)
 
-  pub enqueue-lost : 8 ≤ length x.queue → x.failed ≡ true → enqueue e x ≡ x
-  enqueue-lost h f = enqueue-full h ∙ ap (λ (b : Bool). pick b x (latch x)) f
-
   pub enqueue-first : 8 ≤ length x.queue → x.failed ≡ false → enqueue e x ≡ latch x
   enqueue-first h f = enqueue-full h ∙ ap (λ (b : Bool). pick b x (latch x)) f
-
-pub back-room : (e : Event) (q : List Event) → length q < 8 → at_back e q ≡ q ++ (e ∷ [])
-back-room e q h = ap (λ (b : Bool). pick b (q ++ (e ∷ [])) q) (lt-ltb (length q) 8 h)
-
-pub fail-again : (x : Model) → x.failed ≡ true → fail x ≡ left_is [] x
-fail-again x f = ap (λ (b : Bool). pick b (left_is [] x) (latch x)) f
 
 pub fail-first : (x : Model) → x.failed ≡ false → fail x ≡ latch x
 fail-first x f = ap (λ (b : Bool). pick b (left_is [] x) (latch x)) f
 
 -- A turn, and the event that it takes, by what waits, is left and is queued.
 module _ (ch : List Component) (max : ℕ) (x : Model) where
-  pub turn_by_lem : (w : Waiting) (es : List Effect) (q : List Event) → x.waiting ≡ w → x.left ≡ es → x.queue ≡ q → turn_of ch max x ≡ turn_by ch max x w es q
+  pub turn_by_lem : (w : Option Effect) (es : List Effect) (q : List Event) → x.waiting ≡ w → x.left ≡ es → x.queue ≡ q → turn_of ch max x ≡ turn_by ch max x w es q
   turn_by_lem w es q a b c = λ j. turn_by ch max x (a j) (b j) (c j)
 
-pub taken-by : (x : Model) (w : Waiting) (es : List Effect) (q : List Event) → x.waiting ≡ w → x.left ≡ es → x.queue ≡ q → next_event x ≡ taken_by w es q
+pub taken-by : (x : Model) (w : Option Effect) (es : List Effect) (q : List Event) → x.waiting ≡ w → x.left ≡ es → x.queue ≡ q → next_event x ≡ taken_by w es q
 taken-by x w es q a b c = λ j. taken_by (a j) (b j) (c j)
 
--- The next effect x of the batch is handed out, or its event is queued.
-module _ (d : Dispatch) (x : Effect) (o : OptionEvent) (told : o ≡ emits x) where
-  abbrev handing : List Effect → Model → Model
-  handing es y = hand_out x (drop (d.next + 1) es) y (emits x)
+-- While an effect waits a turn changes nothing and takes no event; else nothing waits.
+still-by : (ch : List Component) (max : ℕ) (x : Model) (w : Option Effect) (es : List Effect) (q : List Event) → is_some w ≡ true → turn_by ch max x w es q ≡ x
+still-by ch max x (Some y) es q h = refl
+still-by ch max x None es q h = cc
 
-  pub handed : {len : ℕ} → Short d → o ≡ NoEvent → (r : Dispatch) → r ≡ waits (Handed x) (nexts (d.next + 1) d) → Moves len handing d r
-  handed w h r e = record { machine = λ c es k. ap (within c es) e ∙ (λ j. hand_out x (drop (d.next + 1) es) (within c es d) ((sym h ∙ told) j)); few = subst Short (sym e) w }
+pub turn-still : (ch : List Component) (max : ℕ) (x : Model) → is_some x.waiting ≡ true → turn_of ch max x ≡ x
+turn-still ch max x h = still-by ch max x x.waiting x.left x.queue h
 
-  pub queued : {len : ℕ} (e : Event) → o ≡ OneEvent e → (r : Dispatch) → Moves len (λ es. enqueue e) (nexts (d.next + 1) d) r → Moves len handing d r
-  queued e h r b = record { machine = λ c es k. b.machine c es k ∙ (λ j. hand_out x (drop (d.next + 1) es) (within c es d) ((sym h ∙ told) j)); few = b.few }
+pub takes_none : (w : Option Effect) (es : List Effect) (q : List Event) → is_some w ≡ true → taken_by w es q ≡ None
+takes_none (Some x) es q h = refl
+takes_none None es q h = cc
+
+pub none_waits : (w : Option Effect) → is_some w ≡ false → w ≡ None
+none_waits None h = refl
+none_waits (Some x) h = cc
 
 -- Of an empty batch the front event is taken, if there is one.
-pub taken-front : (q : List Event) → first_of q ≡ taken_by Nothing [] q
+pub taken-front : (q : List Event) → first_of q ≡ taken_by None [] q
 taken-front [] = refl
 taken-front (e ∷ q) = refl
 
@@ -171,7 +149,7 @@ no_length (e ∷ q) h = absurd (omega arith)
 
 -- Where no test led.
 pub never : {A : Type 0} → false ≡ true → A
-never h = let z : ◌≡◌ {A = ℕ} 0 1 = cc in absurd (omega arith)
+never h = cc
 
 -- The step that settles the front event.
 chain-few : (c : Chain) (w : Work) → Sane c w → size c ≤ 255

@@ -1,15 +1,14 @@
 -- What single functions do to the parts of the code's machine.
-use Rattle.std.specs.Prelude.{◌≡◌, List, ℕ, ◌≤◌, length}
+use Rattle.std.specs.Prelude.{◌≡◌, List, ℕ, ◌≤◌, length, Option}
 use Rattle.model.specs.declared.Effect.{Effect}
 use Rattle.pending.specs.Queue.{events, rest}
 use Rattle.machine.specs.View.{Core}
 use Rattle.settling.specs.declared.Dispatch.{Dispatch}
 use Rattle.settling.specs.declared.Machine.{Machine}
-use Rattle.settling.specs.declared.Waiting.{Waiting}
 use Rattle.settling.specs.Settle.{Model, turn_of}
 use Rattle.settling.specs.View.{view, chain_of, within, Short}
 
-abbrev pub waits : Waiting → Dispatch → Dispatch
+abbrev pub waits : Option Effect → Dispatch → Dispatch
 waits w d = record { next = d.next; waiting = w; pending = d.pending; failed = d.failed }
 
 -- With any batch es of at most len effects, d changed by f is r; and r has at most 8 events queued.

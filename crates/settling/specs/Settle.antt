@@ -1,30 +1,26 @@
 -- Section 4: a machine within a dispatch, one turn of it, and turns up to the next effect or the end.
-use Rattle.std.specs.Prelude.{Bool, true, false, List, [], ◌∷◌, ◌++◌, ℕ, zero, suc, ◌+◌, length}
+use Rattle.std.specs.Prelude.{Bool, true, false, List, [], ◌∷◌, ◌++◌, ℕ, zero, suc, ◌+◌, length, Option, None, Some}
 use Rattle.model.specs.Vocabulary.{pick}
 use Rattle.model.specs.declared.Component.{Component}
 use Rattle.model.specs.declared.Event.{Event}
 use Rattle.model.specs.declared.Effect.{Effect}
 use Rattle.pending.specs.Queue.{has_room, latched, emits}
-use Rattle.pending.specs.declared.OptionEvent.{OptionEvent}
-use Rattle.pending.specs.declared.OptionEvent.TheVariants.{NoEvent, OneEvent}
 use Rattle.machine.specs.View.{Core}
 use Rattle.rot.specs.Step.{step_of}
 use Rattle.settling.specs.declared.Reply.{Reply}
 use Rattle.settling.specs.declared.Reply.TheVariants.{Done, Then, Failed}
-use Rattle.settling.specs.declared.Waiting.{Waiting}
-use Rattle.settling.specs.declared.Waiting.TheVariants.{Nothing, Handed}
 
 -- A machine: what the rules see, the effect that waits for its reply, the effects of the batch that are not handed out
 -- yet, the queue, and whether this dispatch has failed.
 pub record Model : Type 0 where
   pub core : Core
-  pub waiting : Waiting
+  pub waiting : Option Effect
   pub left : List Effect
   pub queue : List Event
   pub failed : Bool
 
 -- A machine with one part changed.
-abbrev pub waiting_is : Waiting → Model → Model
+abbrev pub waiting_is : Option Effect → Model → Model
 waiting_is w m = record { core = m.core; waiting = w; left = m.left; queue = m.queue; failed = m.failed }
 
 abbrev pub left_is : List Effect → Model → Model
@@ -57,9 +53,9 @@ replied (Then e) m = enqueue e m
 replied Failed m = fail m
 
 -- The next effect x of the batch, before es: Emit's event is queued, any other effect is handed out.
-abbrev pub hand_out : Effect → List Effect → Model → OptionEvent → Model
-hand_out x es m NoEvent = waiting_is (Handed x) (left_is es m)
-hand_out x es m (OneEvent e) = enqueue e (left_is es m)
+abbrev pub hand_out : Effect → List Effect → Model → Option Event → Model
+hand_out x es m None = waiting_is (Some x) (left_is es m)
+hand_out x es m (Some e) = enqueue e (left_is es m)
 
 -- The front event e, before q, is taken and settled: a step, whose effects are the batch.
 abbrev pub front_taken : List Component → ℕ → Event → List Event → Model → Model
@@ -67,23 +63,23 @@ front_taken ch max e q m = record { core = (step_of ch max m.core e).core; waiti
 
 -- One turn: nothing while an effect waits; else the next effect of the batch; else the front event; else the dispatch has
 -- ended, and it counts as failed no more.
-abbrev pub turn_by : List Component → ℕ → Model → Waiting → List Effect → List Event → Model
-turn_by ch max m (Handed x) es q = m
-turn_by ch max m Nothing (x ∷ es) q = hand_out x es m (emits x)
-turn_by ch max m Nothing [] (e ∷ q) = front_taken ch max e q m
-turn_by ch max m Nothing [] [] = failed_is false m
+abbrev pub turn_by : List Component → ℕ → Model → Option Effect → List Effect → List Event → Model
+turn_by ch max m (Some x) es q = m
+turn_by ch max m None (x ∷ es) q = hand_out x es m (emits x)
+turn_by ch max m None [] (e ∷ q) = front_taken ch max e q m
+turn_by ch max m None [] [] = failed_is false m
 
 abbrev pub turn_of : List Component → ℕ → Model → Model
 turn_of ch max m = turn_by ch max m m.waiting m.left m.queue
 
 -- The event that the turn takes, if it takes one.
-abbrev pub taken_by : Waiting → List Effect → List Event → OptionEvent
-taken_by (Handed x) es q = NoEvent
-taken_by Nothing (x ∷ es) q = NoEvent
-taken_by Nothing [] (e ∷ q) = OneEvent e
-taken_by Nothing [] [] = NoEvent
+abbrev pub taken_by : Option Effect → List Effect → List Event → Option Event
+taken_by (Some x) es q = None
+taken_by None (x ∷ es) q = None
+taken_by None [] (e ∷ q) = Some e
+taken_by None [] [] = None
 
-abbrev pub next_event : Model → OptionEvent
+abbrev pub next_event : Model → Option Event
 next_event m = taken_by m.waiting m.left m.queue
 
 -- A call under way: the machine, and the events settled so far, the newest first.
@@ -91,9 +87,9 @@ pub record Run : Type 0 where
   pub machine : Model
   pub settled : List Event
 
-abbrev pub noted : OptionEvent → List Event → List Event
-noted NoEvent es = es
-noted (OneEvent e) es = e ∷ es
+abbrev pub noted : Option Event → List Event → List Event
+noted None es = es
+noted (Some e) es = e ∷ es
 
 abbrev pub turned : List Component → ℕ → Run → Run
 turned ch max r = record { machine = turn_of ch max r.machine; settled = noted (next_event r.machine) r.settled }

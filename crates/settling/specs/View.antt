@@ -1,19 +1,16 @@
 -- How the code's machine is read as the definitions' one, and what is known of every machine.
-use Rattle.std.specs.Prelude.{◌≡◌, Bool, false, List, [], ◌≤◌, length, drop}
+use Rattle.std.specs.Prelude.{◌≡◌, Bool, false, List, [], ◌≤◌, length, drop, Option, None, Some}
 use Rattle.model.specs.declared.Component.{Component}
 use Rattle.model.specs.declared.Event.{Event}
 use Rattle.model.specs.declared.Effect.{Effect}
 use Rattle.chain.specs.Tables.{entries, size}
 use Rattle.store.specs.Sink.{held}
 use Rattle.pending.specs.Queue.{events, emits}
-use Rattle.pending.specs.declared.OptionEvent.TheVariants.{NoEvent}
 use Rattle.machine.specs.View.{Core, core_of}
 use Rattle.entry.specs.Premise.{Sane}
 use Rattle.rot.specs.Stepped.{bare}
 use Rattle.settling.specs.declared.Dispatch.{Dispatch}
 use Rattle.settling.specs.declared.Machine.{Machine}
-use Rattle.settling.specs.declared.Waiting.{Waiting}
-use Rattle.settling.specs.declared.Waiting.TheVariants.{Nothing, Handed}
 use Rattle.settling.specs.Settle.{Model}
 
 -- What a dispatch keeps, read beside what the rules see and the effects of the batch.
@@ -46,9 +43,9 @@ pub record Becomes (m : Machine) (x : Model) (r : Machine) : Type 0 where
   pub whole : Whole r
 
 -- Between calls an effect other than Emit waits, or nothing is left, queued or failed.
-abbrev pub RestsBy : Waiting → List Effect → List Event → Bool → Type 0
-RestsBy (Handed x) es q f = emits x ≡ NoEvent
-RestsBy Nothing es q f = (es ≡ []) × (q ≡ []) × (f ≡ false)
+abbrev pub RestsBy : Option Effect → List Effect → List Event → Bool → Type 0
+RestsBy (Some x) es q f = emits x ≡ None
+RestsBy None es q f = (es ≡ []) × (q ≡ []) × (f ≡ false)
 
 abbrev pub Rests : Model → Type 0
 Rests m = RestsBy m.waiting m.left m.queue m.failed

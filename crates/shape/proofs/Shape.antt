@@ -2,6 +2,7 @@
 -- hand out, or something that the next turn hands out: it cannot queue events for ever.
 -- The rules are made of few parts. Each part hands out nothing or begins with a fixed effect, and of two parts in a row
 -- only the first that is not empty counts. The one Emit in the rules comes after a report.
+use Rattle.std.specs.Prelude.{Option, None, Some}
 use mathlib.Core.Path.{◌≡◌, refl}
 use mathlib.Core.List.{List, [], ◌∷◌, ◌++◌, map}
 use Prim.Native.Nat.{ℕ, suc}
@@ -11,8 +12,6 @@ use Rattle.model.specs.Vocabulary.{named}
 use Rattle.components.specs.Chain.{position, same_id}
 use Rattle.model.specs.declared.ComponentId.{ComponentId}
 use Rattle.model.specs.declared.Component.{Component}
-use Rattle.model.specs.declared.OptionId.{OptionId}
-use Rattle.model.specs.declared.OptionId.TheVariants.{None, Some}
 use Rattle.model.specs.declared.PowerOnResult.{PowerOnResult}
 use Rattle.model.specs.declared.PowerOnResult.TheVariants.{Provisioned, Unprovisioned, SelfVerificationFailed}
 use Rattle.model.specs.declared.BootFailureKind.{BootFailureKind}
@@ -37,12 +36,11 @@ use Rattle.updates.specs.Updates.{power, commit_timeout}
 use Rattle.rot.specs.Step.{rule, in_chain, step_of}
 use Rattle.rot.proofs.Choice.{by_policy_p, by_kind_p, by_state_p}
 use Rattle.pending.specs.Queue.{emits}
-use Rattle.pending.specs.declared.OptionEvent.TheVariants.{NoEvent}
 
 -- The first effect, if any, queues no event.
 abbrev pub Opens : List Effect → Type 0
 Opens [] = Unit {0}
-Opens (x ∷ xs) = emits x ≡ NoEvent
+Opens (x ∷ xs) = emits x ≡ None
 
 -- The same of an outcome's effects.
 abbrev Good : Out → Type 0
@@ -106,7 +104,7 @@ module _ (ch : List Component) where
   fails : (i : ComponentId) (c : Core) → Good (verify_failed ch i c)
   fails i c = pick_p Good (iso (status_at c.statuses (position ch i))) (λ t. tt) (λ t. refl)
 
-  readies : (i : ComponentId) (o : OptionId) (c : Core) → Good (component_ready ch i o c)
+  readies : (i : ComponentId) (o : Option ComponentId) (c : Core) → Good (component_ready ch i o c)
   readies i None c = tt
   readies i (Some j) c = pick_p Good (same_id j i) (λ t. pick_p Good (ltb c.cursor (length ch)) (λ u. tt) (λ u. tt)) (λ t. tt)
 

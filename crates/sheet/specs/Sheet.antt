@@ -2,8 +2,7 @@
 use Rattle.std.specs.Prelude.{◌≡◌, false, List, [], ℕ, ◌≤◌, eqb, length, take}
 use Rattle.model.specs.Vocabulary.{pick}
 use Rattle.model.specs.declared.Component.{Component}
-use Rattle.components.specs.declared.Verdict.{Verdict}
-use Rattle.components.specs.Chain.{verdict_of, answer_of}
+use Rattle.components.specs.Chain.{verdict_of, answer_of, Verdict}
 use Rattle.text.specs.Lines.{over}
 use Rattle.reader.specs.Read.{rows_in, bad_line, retry_in, cards_in}
 use Rattle.driver.specs.Run.{Entry, transcript, Progress, start_point, run_from}

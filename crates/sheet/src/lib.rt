@@ -2,13 +2,15 @@
 #![tactic(auto)]
 
 ghost use Rattle.std.specs.Prelude.{◌≡◌, length};
+ghost use Rattle.sheet.specs.declared.Refusal.TheVariants.{BadLine, Chain, Run};
 ghost use Rattle.sheet.specs.Sheet.{check_of, run_of, numbers_of, RunGives};
+ghost use Rattle.sheet.specs.Refused.{told, Drives};
 
-use components::ComponentList;
-use reader::Sheet;
-use settling::Machine;
+use components::ChainError;
+use driver::{End, RunError};
+use reader::BadLine;
 
-// A number of the scope's questions or 0, its two places, bytes written, events settled.
+// A number of the scope's questions or 0, its two places, bytes written, events settled: five numbers, as C reads them.
 #[repr(C)]
 #[derive(Clone, Copy)]
 pub struct Answer {
@@ -19,54 +21,97 @@ pub struct Answer {
     pub settled: u64,
 }
 
-// A call that has written and settled nothing.
-fn unwritten(number: u64, place: u64, other: u64) -> Answer
-    ensures { result ≡ record { number = number; place = place; other = other; written = 0; settled = 0 } }
-{
-    Answer {
-        number: number,
-        place: place,
-        other: other,
-        written: 0,
-        settled: 0,
+// Why a sheet is not run to its end: question 1, questions 2 to 6, questions 7 to 9.
+#[derive(Clone, Copy, Debug, PartialEq, Eq)]
+enum Refusal {
+    BadLine(BadLine),
+    Chain(ChainError),
+    Run(RunError),
+}
+
+impl From<BadLine> for Refusal {
+    ghost from_gives = { λ line refusal. refusal ≡ BadLine line };
+
+    fn from(line: BadLine) -> Self {
+        Refusal::BadLine(line)
     }
+}
+
+impl From<ChainError> for Refusal {
+    ghost from_gives = { λ error refusal. refusal ≡ Chain error };
+
+    fn from(error: ChainError) -> Self {
+        Refusal::Chain(error)
+    }
+}
+
+impl From<RunError> for Refusal {
+    ghost from_gives = { λ error refusal. refusal ≡ Run error };
+
+    fn from(error: RunError) -> Self {
+        Refusal::Run(error)
+    }
+}
+
+// The five numbers of what came of a call.
+fn numbers(outcome: Result<(), Refusal>, written: u64, settled: u64) -> Answer
+    ensures { result ≡ told outcome written settled }
+{
+    let (number, place, other) = match outcome {
+        Ok(()) => (0, 0, 0),
+        Err(Refusal::BadLine(BadLine(line))) => (1, line as u64, 0),
+        Err(Refusal::Chain(error)) => {
+            let verdict = components::Answer::from(Err(error));
+            (verdict.number, verdict.place, verdict.other)
+        }
+        Err(Refusal::Run(RunError::NothingWaits(line))) => (7, line as u64, 0),
+        Err(Refusal::Run(RunError::NoRoom)) => (8, 0, 0),
+        Err(Refusal::Run(RunError::LimitReached)) => (9, 0, 0),
+    };
+    Answer {
+        number,
+        place,
+        other,
+        written,
+        settled,
+    }
+}
+
+// Questions 1 to 6 are put to a sheet.
+fn judge(sheet: &[u8]) -> Result<(), Refusal>
+    ensures { told result 0 0 ≡ numbers_of (check_of sheet.now) }
+{
+    let read = reader::read_sheet(sheet)?;
+    read.list.verdict()?;
+    Ok(())
+}
+
+// A sheet that none of them refuses is driven to the end of its run. The list's questions are put where its machine is made.
+fn drive(sheet: &[u8], out: &mut [u8], limit: u64) -> Result<End, Refusal>
+    ensures { Drives sheet.now out.old limit result out.new }
+{
+    let read = reader::read_sheet(sheet)?;
+    let machine = sm::new(read.list, read.max_retry)?;
+    Ok(driver::drive(sheet, out, limit, machine))
 }
 
 // Questions 1 to 6 of a sheet.
 pub fn check(sheet: &[u8]) -> Answer
     ensures { result ≡ numbers_of (check_of sheet.now) }
 {
-    let read = reader::read_sheet(sheet);
-    if read.bad != 0 {
-        return unwritten(1, read.bad as u64, 0);
-    }
-    let list = read.list;
-    let verdict = list.verdict();
-    let answer = verdict.answer();
-    unwritten(answer.number, answer.place, answer.other)
+    numbers(judge(sheet), 0, 0)
 }
 
 // Runs a sheet into a lent buffer: at most `limit` events are settled.
 pub fn run(sheet: &[u8], out: &mut [u8], limit: u64) -> Answer
     ensures { RunGives sheet.now out.old limit result out.new }
 {
-    let read = reader::read_sheet(sheet);
-    if read.bad != 0 {
-        return unwritten(1, read.bad as u64, 0);
-    }
-    let list = read.list;
-    let made = sm::new(list, read.max_retry);
-    let answer = made.answer;
-    if answer.number != 0 {
-        return unwritten(answer.number, answer.place, answer.other);
-    }
-    let machine = made.machine;
-    let end = driver::drive(sheet, out, limit, machine);
-    Answer {
-        number: end.number,
-        place: end.place,
-        other: 0,
-        written: end.written as u64,
-        settled: end.settled,
+    match drive(sheet, out, limit) {
+        Ok(end) => numbers(
+            end.outcome.map_err(Refusal::from),
+            end.written as u64,
+            end.settled,
+        ),
+        Err(refusal) => numbers(Err(refusal), 0, 0),
     }
 }

@@ -1,5 +1,6 @@
 -- A reading of section 4 that goes wrong: that ReportRecoveryFailed means lockdown. Events queued ahead can reach
 -- PreSupervision, where RecoveryFailed is dropped.
+use Rattle.std.specs.Prelude.{None, Some}
 use mathlib.Core.Path.{◌≡◌, refl}
 use mathlib.Core.Bool.{false}
 use mathlib.Core.List.{List, [], ◌∷◌}
@@ -15,7 +16,6 @@ use Rattle.machine.specs.Status.{fresh}
 use Rattle.advance.specs.Advance.{quiet_says, isolated_ahead}
 use Rattle.rot.specs.Step.{step_of}
 use Rattle.settling.specs.declared.Reply.TheVariants.{Done, Then}
-use Rattle.settling.specs.declared.Waiting.TheVariants.{Nothing, Handed}
 use Rattle.settling.specs.Settle.{Model, turns, settle}
 use Rattle.sm.specs.Calls.{Expected, begin_of, reply_of}
 
@@ -24,7 +24,7 @@ abbrev seven : List Component
 seven = record { id = id_of 7; attrs = plain_attrs Active Required } ∷ []
 
 abbrev in_recovery : Model
-in_recovery = record { core = record { state = Recovering (id_of 7); cursor = 0; statuses = fresh ∷ []; window = false }; waiting = Nothing; left = []; queue = []; failed = false }
+in_recovery = record { core = record { state = Recovering (id_of 7); cursor = 0; statuses = fresh ∷ []; window = false }; waiting = None; left = []; queue = []; failed = false }
 
 -- No recovery is available; while that is reported the component is restored after all.
 abbrev reporting : Expected
@@ -39,7 +39,7 @@ verifying = reply_of seven 2 walking.machine Done
 abbrev ending : Expected
 ending = reply_of seven 2 verifying.machine Done
 
-pub report-is-not-lockdown : (reporting.effect ≡ Handed (ReportRecoveryFailed (id_of 7))) × (walking.effect ≡ Handed (ReadFirmware (id_of 7))) × (verifying.effect ≡ Handed (VerifyFirmware (id_of 7)))
-    × (ending.effect ≡ Nothing) × (ending.settled ≡ RecoveryFailed ∷ []) × (ending.machine.core.state ≡ PreSupervision)
+pub report-is-not-lockdown : (reporting.effect ≡ Some (ReportRecoveryFailed (id_of 7))) × (walking.effect ≡ Some (ReadFirmware (id_of 7))) × (verifying.effect ≡ Some (VerifyFirmware (id_of 7)))
+    × (ending.effect ≡ None) × (ending.settled ≡ RecoveryFailed ∷ []) × (ending.machine.core.state ≡ PreSupervision)
 unfolding position quiet_says isolated_ahead step_of turns settle begin_of reply_of
 report-is-not-lockdown = (refl, refl, refl, refl, refl, refl)

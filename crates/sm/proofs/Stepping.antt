@@ -1,12 +1,11 @@
 -- What a step call gives, from what its parts give.
-use Prim.Native.Nat.{ℕ}
+use Rattle.std.specs.Prelude.{Option, None, Some, Ok, Err, ◌≢◌}
+use Rattle.std.specs.Option.{is_none, is_some}
 use native.Mathlib.Omega.{arith}
 use mathlib.Core.Path.{◌≡◌, refl, sym, ap, ◌∙◌, subst}
 use mathlib.Core.Bool.{Bool, true, false}
 use mathlib.Core.List.{List, [], ◌∷◌, ◌++◌}
-use lib.Dec.{eqb}
 use lib.ListN.{length}
-use borrow.Author.Tests.{ne_eqb}
 use Rattle.model.specs.Vocabulary.{pick}
 use Rattle.model.specs.declared.Event.{Event}
 use Rattle.model.specs.declared.Effect.{Effect}
@@ -17,42 +16,47 @@ use Rattle.settling.specs.declared.Dispatch.{Dispatch}
 use Rattle.settling.specs.declared.Machine.{Machine}
 use Rattle.settling.specs.declared.Reply.{Reply}
 use Rattle.settling.specs.declared.Reply.TheVariants.{Done, Then, Failed}
-use Rattle.settling.specs.declared.Waiting.{Waiting}
-use Rattle.settling.specs.declared.Waiting.TheVariants.{Nothing, Handed}
 use Rattle.settling.specs.Settle.{Model, Run, waiting_is, queue_is, enqueue, replied, settle}
 use Rattle.settling.specs.View.{view, chain_of, Becomes, Rests, Valid}
 use Rattle.settling.specs.Parts.{Moves}
 use Rattle.settling.proofs.Ends.{Few, fail-few, enqueue-few, settle-ends}
-use Rattle.settling.proofs.Views.{puts, becomes-as, moves-becomes, enqueue-room, view-waiting, never}
+use Rattle.settling.proofs.Views.{puts, becomes-as, moves-becomes, enqueue-room, view-waiting, none_waits}
 use Rattle.sm.specs.declared.Called.{Called}
-use Rattle.sm.specs.Calls.{answered, refused, done_by, begin_of, reply_by, reply_of}
-use Rattle.sm.specs.Gives.{reported, CallGives}
+use Rattle.sm.specs.declared.CallError.{CallError}
+use Rattle.sm.specs.Calls.{Expected, answered, refused, done_by, begin_of, reply_by, reply_of}
+use Rattle.sm.specs.Gives.{number_of, reported, CallGives}
 
 -- Where the earlier event is done, nothing waits and nothing is queued.
-pub done-both : (w : Waiting) (q : List Event) → done_by w q ≡ true → (w ≡ Nothing) × (q ≡ [])
-done-both (Handed x) q h = never h
-done-both Nothing [] h = (refl, refl)
-done-both Nothing (e ∷ q) h = never h
+pub done-both : (w : Option Effect) (q : List Event) → done_by w q ≡ true → (w ≡ None) × (q ≡ [])
+done-both (Some x) q h = cc
+done-both None [] h = (refl, refl)
+done-both None (e ∷ q) h = cc
 
--- Of a machine with no effect waiting, the count of its queue tells whether it is done.
-pub done-count : (q : List Event) → eqb (length q) 0 ≡ done_by Nothing q
-done-count [] = refl
-done-count (e ∷ q) = ne_eqb (length (e ∷ q)) 0 (λ h. omega arith)
+-- With an empty queue what waits tells whether a machine is done, and with a queued event it is not.
+pub done_empty : (w : Option Effect) (q : List Event) → length q ≡ 0 → is_none w ≡ done_by w q
+done_empty None [] h = refl
+done_empty (Some x) q h = refl
+done_empty None (e ∷ q) h = absurd (omega arith)
+
+pub done_queued : (w : Option Effect) (q : List Event) → length q ≢ 0 → false ≡ done_by w q
+done_queued (Some x) q h = refl
+done_queued None [] h = absurd (omega arith)
+done_queued None (e ∷ q) h = refl
 
 module _ (x : Model) where
   -- A reply hands nothing out by itself, and leaves at most 8 events.
-  pub replied-idle : (a : Reply) → (replied a (waiting_is Nothing x)).waiting ≡ Nothing
+  pub replied-idle : (a : Reply) → (replied a (waiting_is None x)).waiting ≡ None
   replied-idle Done = refl
-  replied-idle (Then e) = pick_p (λ (m : Model). m.waiting ≡ Nothing) (has_room x.queue) (λ t. refl) (λ t. pick_p (λ (m : Model). m.waiting ≡ Nothing) x.failed (λ u. refl) (λ u. refl))
-  replied-idle Failed = pick_p (λ (m : Model). m.waiting ≡ Nothing) x.failed (λ t. refl) (λ t. refl)
+  replied-idle (Then e) = pick_p (λ (m : Model). m.waiting ≡ None) (has_room x.queue) (λ t. refl) (λ t. pick_p (λ (m : Model). m.waiting ≡ None) x.failed (λ u. refl) (λ u. refl))
+  replied-idle Failed = pick_p (λ (m : Model). m.waiting ≡ None) x.failed (λ t. refl) (λ t. refl)
 
-  pub replied-few : (a : Reply) → Few x → Few (replied a (waiting_is Nothing x))
+  pub replied-few : (a : Reply) → Few x → Few (replied a (waiting_is None x))
   replied-few Done h = h
-  replied-few (Then e) h = enqueue-few e (waiting_is Nothing x) h
-  replied-few Failed h = fail-few (waiting_is Nothing x) h
+  replied-few (Then e) h = enqueue-few e (waiting_is None x) h
+  replied-few Failed h = fail-few (waiting_is None x) h
 
 -- A call that settles: from the machine v, read as y, to the machine r.
-pub settles : (m v r : Machine) (y : Model) (e : Called) → Becomes m y v → y.waiting ≡ Nothing → Few y → Becomes v (settle (chain_of v) v.max_retry (view v)).machine r → e ≡ reported r 0
+pub settles : (m v r : Machine) (y : Model) (e : Called) → Becomes m y v → y.waiting ≡ None → Few y → Becomes v (settle (chain_of v) v.max_retry (view v)).machine r → e ≡ reported r (Ok tt)
     → CallGives m (answered (settle (chain_of m) m.max_retry y)) e
 settles m v r y e a h f b q =
     let run : Run = settle (chain_of m) m.max_retry y in
@@ -71,8 +75,8 @@ settles m v r y e a h f b q =
     }
 
 -- A refused call gives the machine that it was given.
-pub refuses : (m : Machine) (n : ℕ) (e : Called) → Valid m → e ≡ reported m n → CallGives m (refused n (view m)) e
-refuses m n e w q = subst (CallGives m (refused n (view m))) (sym q) record { machine = refl; number = refl; effect = sym (view-waiting m); chain = refl; max_retry = refl; kept = λ k. refl; few = omega arith; valid = w }
+pub refuses : (m : Machine) (a : CallError) (e : Called) → Valid m → e ≡ reported m (Err a) → CallGives m (refused (number_of (Err a)) (view m)) e
+refuses m a e w q = subst (CallGives m (refused (number_of (Err a)) (view m))) (sym q) record { machine = refl; number = refl; effect = sym (view-waiting m); chain = refl; max_retry = refl; kept = λ k. refl; few = omega arith; valid = w }
 
 module _ (m : Machine) (w : Valid m) (e : Event) where
   abbrev done : Bool
@@ -93,9 +97,22 @@ module _ (m : Machine) (w : Valid m) (e : Event) where
       becomes-as (moves-becomes m w.whole (λ (es : List Effect). enqueue e) d b)
       (enqueue-room e (view m) (omega (arith, ap (λ (q : List Event). length q) none)) ∙ ap (λ (q : List Event). queue_is (q ++ (e ∷ [])) (view m)) none)
 
-  pub begun-idle : done ≡ true → m.dispatch.waiting ≡ Nothing
+  pub begun-idle : done ≡ true → m.dispatch.waiting ≡ None
   begun-idle h = sym (view-waiting m) ∙ (done-both (view m).waiting (view m).queue h).0
 
-pub reply-waiting : (m : Machine) (a : Reply) (u : Waiting) → m.dispatch.waiting ≡ u → reply_of (chain_of m) m.max_retry (view m) a ≡ reply_by (chain_of m) m.max_retry (view m) a u
-unfolding reply_of
-reply-waiting m a u h = ap (reply_by (chain_of m) m.max_retry (view m) a) (view-waiting m ∙ h)
+-- By what waits a reply is refused or taken.
+module _ (m : Machine) (a : Reply) where
+  abbrev given : Expected
+  given = answered (settle (chain_of m) m.max_retry (replied a (waiting_is None (view m))))
+
+  given_by : (w : Option Effect) → is_some w ≡ true → reply_by (chain_of m) m.max_retry (view m) a w ≡ given
+  given_by (Some x) h = refl
+  given_by None h = cc
+
+  pub reply-taken : is_some m.dispatch.waiting ≡ true → reply_of (chain_of m) m.max_retry (view m) a ≡ given
+  unfolding reply_of view
+  reply-taken h = given_by m.dispatch.waiting h
+
+  pub reply-refused : is_some m.dispatch.waiting ≡ false → reply_of (chain_of m) m.max_retry (view m) a ≡ refused 7 (view m)
+  unfolding reply_of
+  reply-refused h = ap (reply_by (chain_of m) m.max_retry (view m) a) (view-waiting m ∙ none_waits m.dispatch.waiting h)

@@ -1,26 +1,20 @@
 -- What the contracts of new, begin and reply say.
-use Rattle.std.specs.Prelude.{◌≡◌, false, ℕ, ◌≤◌, length, replicate}
-use Rattle.components.specs.Chain.{entries_of, no_entries, verdict_of, answer_of}
+use Rattle.std.specs.Prelude.{◌≡◌, false, ℕ, ◌≤◌, length, None, Result, Ok, Err}
+use Rattle.components.specs.Chain.{entries_of, verdict_of, no_refusal}
 use Rattle.model.specs.declared.State.{State}
-use Rattle.model.specs.declared.State.TheVariants.{Locked}
-use Rattle.chain.specs.declared.Chain.{Chain}
 use Rattle.store.specs.Sink.{empty_sink}
 use Rattle.pending.specs.Queue.{no_events}
 use Rattle.machine.specs.View.{new_rot}
 use Rattle.machine.specs.declared.Work.{Work}
-use Rattle.settling.specs.declared.Waiting.TheVariants.{Nothing}
 use Rattle.components.specs.declared.ComponentList.{ComponentList}
-use Rattle.components.specs.declared.Verdict.TheVariants.{Accepted}
+use Rattle.components.specs.declared.ChainError.{ChainError}
 use Rattle.settling.specs.declared.Dispatch.{Dispatch}
 use Rattle.settling.specs.declared.Machine.{Machine}
 use Rattle.settling.specs.View.{view, chain_of, Valid}
-use Rattle.sm.specs.declared.Made.{Made}
+use Rattle.sm.specs.declared.CallError.{CallError}
+use Rattle.sm.specs.declared.CallError.TheVariants.{NothingWaits, NotDone}
 use Rattle.sm.specs.declared.Called.{Called}
 use Rattle.sm.specs.Calls.{Expected, start_of}
-
--- No component.
-abbrev pub no_chain : Chain
-no_chain = record { list = no_entries; positions = replicate 256 0; parents = replicate 255 0 }
 
 -- No component was touched, and no effect given.
 abbrev pub untouched : State → Work
@@ -28,11 +22,7 @@ untouched s = record { state = s; rot = new_rot; sink = empty_sink }
 
 -- Nothing waits, is queued or has failed.
 abbrev pub idle : Dispatch
-idle = record { next = 0; waiting = Nothing; pending = no_events; failed = false }
-
--- The machine that a refused list gets: no component, locked.
-unfoldable pub blank : Machine
-blank = record { chain = no_chain; max_retry = 0; work = untouched Locked; dispatch = idle }
+idle = record { next = 0; waiting = None; pending = no_events; failed = false }
 
 -- The machine of an accepted list and a max_retry, at power-on. What its arrays hold past their lengths is left open.
 pub record Fresh (l : ComponentList) (max : ℕ) (m : Machine) : Type 0 where
@@ -41,22 +31,27 @@ pub record Fresh (l : ComponentList) (max : ℕ) (m : Machine) : Type 0 where
   pub max_retry : m.max_retry ≡ max
   pub valid : Valid m
 
--- new: the number and both places of questions 2 to 6, and a machine only on 0.
-pub record NewGives (l : ComponentList) (max : ℕ) (r : Made) : Type 0 where
-  pub answer : r.answer ≡ answer_of (verdict_of l.len (entries_of l))
-  pub accepted : verdict_of l.len (entries_of l) ≡ Accepted → Fresh l max r.machine
-  pub refused : (verdict_of l.len (entries_of l) ≡ Accepted → ⊥) → r.machine ≡ blank
+-- new: questions 2 to 6, and a machine only where none refuses.
+abbrev pub NewGives : ComponentList → ℕ → Result Machine ChainError → Type 0
+NewGives l max (Ok m) = (verdict_of l.len (entries_of l) ≡ no_refusal) × Fresh l max m
+NewGives l max (Err e) = verdict_of l.len (entries_of l) ≡ Err e
+
+-- Document 01's number of what a call answers.
+abbrev pub number_of : Result (Unit {0}) CallError → ℕ
+number_of (Ok u) = 0
+number_of (Err NothingWaits) = 7
+number_of (Err NotDone) = 10
 
 -- What a call reports of the machine that it gives back.
-abbrev pub reported : Machine → ℕ → Called
-reported m n = record { machine = m; number = n; effect = m.dispatch.waiting }
+abbrev pub reported : Machine → Result (Unit {0}) CallError → Called
+reported m a = record { machine = m; answer = a; effect = m.dispatch.waiting }
 
 -- A step call on the machine m, for which document 01 gives x: the machine as it is read, the number and the effect; the
 -- chain and max_retry stay. A refused call gives back m itself. No call settles over 8 events before the next effect or the
 -- end; which ones is told by x and not returned. A step call has no places.
 pub record CallGives (m : Machine) (x : Expected) (r : Called) : Type 0 where
   pub machine : view r.machine ≡ x.machine
-  pub number : r.number ≡ x.number
+  pub number : number_of r.answer ≡ x.number
   pub effect : r.effect ≡ x.effect
   pub chain : r.machine.chain ≡ m.chain
   pub max_retry : r.machine.max_retry ≡ m.max_retry

@@ -1,4 +1,2 @@
--- Modules of proofs that belong to no one function; other crates cite Laws.
+-- Lemmas that belong to no one function; other crates cite them.
 pub mod Laws
-pub mod Rows
-pub mod Upto

@@ -8,7 +8,7 @@ ghost use Rattle.table.specs.Payload.{power_of, boot_of};
 use model::{BootFailureKind, Event, PowerOnResult, State};
 
 // The rule of each pair: a row for each state and a column for each event, in the order in which the source declares
-// them. The numbers are listed in specs/Table.antt.
+// them. Document 01 asks for one constant table of rule numbers; specs/Table.antt says which rule each number is.
 const RULES: [[u8; 18]; 7] = [
     [1, 0, 0, 0, 0, 0, 0, 0, 0, 0, 0, 0, 0, 0, 0, 0, 0, 17],
     [0, 2, 3, 0, 5, 0, 0, 0, 0, 0, 12, 0, 0, 0, 18, 20, 0, 17],
@@ -60,11 +60,7 @@ pub fn event_no(event: Event) -> usize
         Event::Restored(_) => 11,
         Event::RecoveryUnavailable(_) => 12,
         Event::RecoveryFailed => 13,
-        Event::BootFailed {
-            id: _,
-            checkpoint: _,
-            kind: _,
-        } => 14,
+        Event::BootFailed { .. } => 14,
         Event::Timeout(_) => 15,
         Event::CommitTimeout => 16,
         Event::EffectFailed => 17,
@@ -75,9 +71,7 @@ pub fn event_no(event: Event) -> usize
 pub fn rule_number(state: State, event: Event) -> u8
     ensures { (result ≡ rule_no state event) × (result < 22) }
 {
-    let i = state_no(state);
-    let j = event_no(event);
-    RULES[i][j]
+    RULES[state_no(state)][event_no(event)]
 }
 
 // What PowerGood found; Unprovisioned of any other event.
@@ -86,27 +80,7 @@ pub fn power_on_result(event: Event) -> PowerOnResult
 {
     match event {
         Event::PowerGood(result) => result,
-        Event::VerificationPassed(_) => PowerOnResult::Unprovisioned,
-        Event::VerificationFailed(_) => PowerOnResult::Unprovisioned,
-        Event::ComponentReady(_) => PowerOnResult::Unprovisioned,
-        Event::Booted(_) => PowerOnResult::Unprovisioned,
-        Event::AttestationChallenge => PowerOnResult::Unprovisioned,
-        Event::UpdateRequest => PowerOnResult::Unprovisioned,
-        Event::UpdateVerified => PowerOnResult::Unprovisioned,
-        Event::UpdateRejected => PowerOnResult::Unprovisioned,
-        Event::BootConfirmed(_) => PowerOnResult::Unprovisioned,
-        Event::CorruptionDetected(_) => PowerOnResult::Unprovisioned,
-        Event::Restored(_) => PowerOnResult::Unprovisioned,
-        Event::RecoveryUnavailable(_) => PowerOnResult::Unprovisioned,
-        Event::RecoveryFailed => PowerOnResult::Unprovisioned,
-        Event::BootFailed {
-            id: _,
-            checkpoint: _,
-            kind: _,
-        } => PowerOnResult::Unprovisioned,
-        Event::Timeout(_) => PowerOnResult::Unprovisioned,
-        Event::CommitTimeout => PowerOnResult::Unprovisioned,
-        Event::EffectFailed => PowerOnResult::Unprovisioned,
+        _ => PowerOnResult::Unprovisioned,
     }
 }
 
@@ -114,35 +88,15 @@ pub fn power_on_result(event: Event) -> PowerOnResult
 pub fn boot_failure(event: Event) -> BootFailure
     ensures { result ≡ boot_of event }
 {
-    let none = BootFailure {
-        checkpoint: 0,
-        kind: BootFailureKind::TimedOut,
-    };
     match event {
-        Event::PowerGood(_) => none,
-        Event::VerificationPassed(_) => none,
-        Event::VerificationFailed(_) => none,
-        Event::ComponentReady(_) => none,
-        Event::Booted(_) => none,
-        Event::AttestationChallenge => none,
-        Event::UpdateRequest => none,
-        Event::UpdateVerified => none,
-        Event::UpdateRejected => none,
-        Event::BootConfirmed(_) => none,
-        Event::CorruptionDetected(_) => none,
-        Event::Restored(_) => none,
-        Event::RecoveryUnavailable(_) => none,
-        Event::RecoveryFailed => none,
         Event::BootFailed {
-            id: _,
             checkpoint,
             kind,
-        } => BootFailure {
-            checkpoint: checkpoint,
-            kind: kind,
+            ..
+        } => BootFailure { checkpoint, kind },
+        _ => BootFailure {
+            checkpoint: 0,
+            kind: BootFailureKind::TimedOut,
         },
-        Event::Timeout(_) => none,
-        Event::CommitTimeout => none,
-        Event::EffectFailed => none,
     }
 }

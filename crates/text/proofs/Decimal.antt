@@ -32,8 +32,9 @@ enough (suc k) n h =
     let q : n / 10 < 10 ^ suc k = omega arith in
     ap (λ (s : List ℕ). pick (ltb n 10) ((48 + n) ∷ []) (s ++ (48 + n % 10) ∷ [])) (enough k (n / 10) q)
 
-pub one-digit : (n : ℕ) → n < 10 → decimal n ≡ (48 + n) ∷ []
-one-digit n h = single 19 n h
+pub one-digit : (n : ℕ) → n < 10 → (48 + n % 10) ∷ [] ≡ decimal n
+unfolding digits
+one-digit n h = single 0 n h ∙ sym (single 19 n h)
 
 pub more-digits : (n : ℕ) → 10 ≤ n → n < 2 ^ 64 → decimal (n / 10) ++ (48 + n % 10) ∷ [] ≡ decimal n
 more-digits n h f =

@@ -1,19 +1,15 @@
 -- What a line holds of a text, pushed in parts; a text that fits into a buffer, and one that does not.
+use Rattle.std.specs.Prelude.{None, Some}
 use mathlib.Core.Path.{◌≡◌, refl, sym, ap, ◌∙◌}
 use mathlib.Core.List.{List, [], ◌∷◌, ◌++◌, append_assoc, append-nil}
 use Prim.Native.Nat.{ℕ, zero, suc, ◌+◌, ◌≤◌, ◌<◌}
-use native.Mathlib.Numerals.{add-one}
 use native.Mathlib.Omega.{arith}
-use lib.ListN.{length, take, drop, set}
-use lib.Seq.{take_all, take_at, take-suc-set}
+use lib.ListN.{length, take, drop}
+use lib.Seq.{take_all, take_at}
+use Rattle.std.proofs.lemmas.List.{length-take, take_min}
 use borrow.Author.Tests.{le-leb, lt-leb}
-use Rattle.text.specs.declared.Room.TheVariants.{At, Full}
 use Rattle.text.specs.declared.Line.{Line}
 use Rattle.text.specs.Lines.{text_of, held, Pushed, Built, fits, written, room_after}
-
--- a byte put behind the first n
-pub put_last : (n : ℕ) (s : List ℕ) (b : ℕ) → n < length s → take (n + 1) (set s n b) ≡ take n s ++ b ∷ []
-put_last n s b h = ap (λ (k : ℕ). take k (set s n b)) (add-one n) ∙ take-suc-set s n b h
 
 -- what was cut off before is cut off after
 take_again : (n : ℕ) (s t : List ℕ) → take n (take n s ++ t) ≡ take n (s ++ t)
@@ -34,26 +30,15 @@ pub held-full : (s t : List ℕ) → length s ≡ 64 → held (s ++ t) ≡ s
 unfolding held
 held-full s t e = take_at s t 64 e
 
--- no line has over 64 bytes
-take_short : (n : ℕ) (s : List ℕ) → length (take n s) ≤ length s
-take_short zero s = omega arith
-take_short (suc n) [] = omega arith
-take_short (suc n) (x ∷ s) = omega (arith, take_short n s)
-
-pub size-bound : (l : Line) → length l.bytes ≡ 64 → length (text_of l) ≤ 64
-size-bound l e = omega (arith, take_short l.len l.bytes)
-
 -- the text is the first bytes, as many as it has
-take-size : (n : ℕ) (s : List ℕ) → take (length (take n s)) s ≡ take n s
-take-size zero s = refl
-take-size (suc n) [] = refl
-take-size (suc n) (x ∷ s) = ap (λ (r : List ℕ). x ∷ r) (take-size n s)
-
 pub first-bytes : (l : Line) (n : ℕ) → n ≡ length (text_of l) → take n l.bytes ≡ text_of l
-first-bytes l n e = ap (λ (k : ℕ). take k l.bytes) e ∙ take-size l.len l.bytes
+first-bytes l n e = ap (λ (k : ℕ). take k l.bytes) (e ∙ length-take l.len l.bytes) ∙ take_min l.len l.bytes
 
+-- no line has over 64 bytes
 pub nothing : (l : Line) → length l.bytes ≡ 64 → Pushed l [] l
-nothing l e = record { text = sym (ap held (append-nil (text_of l)) ∙ held-short (text_of l) (size-bound l e)) }
+nothing l e =
+    let short : length (text_of l) ≤ 64 = omega (arith, length-take l.len l.bytes) in
+    record { text = sym (ap held (append-nil (text_of l)) ∙ held-short (text_of l) short) }
 
 -- one text after another
 pub chained : {l m r : Line} {s t : List ℕ} → Pushed l s m → Pushed m t r → Pushed l (s ++ t) r
@@ -73,15 +58,18 @@ pub rejoined : {s : List ℕ} {r : Line} (t : List ℕ) → Built s r → s ≡ 
 rejoined t b e = record { text = b.text ∙ ap held e }
 
 -- a line whose text is at most 64 bytes holds all of it
+pub whole : {s : List ℕ} {r : Line} → Built s r → length s ≤ 64 → text_of r ≡ s
+whole {s} b h = b.text ∙ held-short s h
+
 pub exactly : {s : List ℕ} {r : Line} (t : List ℕ) → Built s r → s ≡ t → length t ≤ 64 → text_of r ≡ t
-exactly t b e h = b.text ∙ ap held e ∙ held-short t h
+exactly t b e h = whole (rejoined t b e) h
 
 -- a text that fits, and one that does not
 module _ (out : List ℕ) (at : ℕ) (s : List ℕ) where
-  pub fitted : at + length s ≤ length out → (At (at + length s) ≡ room_after out at s) × (take at out ++ s ++ drop (at + length s) out ≡ written out at s)
+  pub fitted : at + length s ≤ length out → (Some (at + length s) ≡ room_after out at s) × (take at out ++ s ++ drop (at + length s) out ≡ written out at s)
   unfolding room_after written fits
   fitted h = (rw (le-leb _ _ h), rw (le-leb _ _ h))
 
-  pub unfitted : length out < at + length s → (Full ≡ room_after out at s) × (out ≡ written out at s)
+  pub unfitted : length out < at + length s → (None ≡ room_after out at s) × (out ≡ written out at s)
   unfolding room_after written fits
   unfitted h = (rw (lt-leb _ _ h), rw (lt-leb _ _ h))

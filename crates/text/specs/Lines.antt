@@ -1,9 +1,7 @@
 -- Section 5: a line that is built, and a line that is put into a lent buffer.
-use Rattle.std.specs.Prelude.{◌≡◌, Bool, List, ◌++◌, ℕ, ◌+◌, leb, length, take, drop}
+use Rattle.std.specs.Prelude.{◌≡◌, Bool, List, ◌++◌, ℕ, ◌+◌, leb, length, take, drop, Option, None, Some}
 use Rattle.model.specs.Vocabulary.{pick}
 use Rattle.text.specs.declared.Line.{Line}
-use Rattle.text.specs.declared.Room.{Room}
-use Rattle.text.specs.declared.Room.TheVariants.{At, Full}
 
 -- The text of a line: its bytes, up to its length.
 abbrev pub text_of : Line → List ℕ
@@ -30,8 +28,8 @@ unfoldable pub written : List ℕ → ℕ → List ℕ → List ℕ
 written out at s = pick (fits out at s) (take at out ++ s ++ drop (at + length s) out) out
 
 -- The position after the text, if it fits.
-unfoldable pub room_after : List ℕ → ℕ → List ℕ → Room
-room_after out at s = pick (fits out at s) (At (at + length s)) Full
+unfoldable pub room_after : List ℕ → ℕ → List ℕ → Option ℕ
+room_after out at s = pick (fits out at s) (Some (at + length s)) None
 
 -- A buffer with a text at its start: the bytes past the text stay.
 unfoldable pub over : List ℕ → List ℕ → List ℕ

@@ -12,13 +12,6 @@ pub struct Line {
     pub len: usize,
 }
 
-// Where the next line goes, or no room for this one.
-#[derive(Clone, Copy)]
-pub enum Room {
-    At(usize),
-    Full,
-}
-
 pub fn empty() -> Line
     ensures { text_of result ≡ [] }
 {
@@ -32,62 +25,56 @@ pub fn empty() -> Line
 pub fn size(l: Line) -> usize
     ensures { result ≡ length (text_of l) }
 {
-    let n = l.len;
-    if n < 64 {
-        return n;
-    }
-    64
+    l.len.min(64)
+}
+
+// The bytes of the line.
+pub fn bytes(l: &Line) -> &[u8]
+    ensures { result.now ≡ text_of l.now }
+{
+    &l.bytes[..l.len.min(64)]
 }
 
 // One byte more. A full line stays as it is.
-pub fn push(l: Line, b: u8) -> Line
+pub fn push(mut l: Line, b: u8) -> Line
     ensures { Pushed l (b ∷ []) result }
 {
-    let at = l.len;
-    let mut out = l;
-    if at < 64 {
-        out.bytes[at] = b;
-        out.len = at + 1;
-        return out;
+    if l.len < 64 {
+        l.bytes[l.len] = b;
+        l.len += 1;
     }
-    out
+    l
 }
 
-pub fn push_bytes(l: Line, s: &[u8]) -> Line
+pub fn push_bytes(mut l: Line, s: &[u8]) -> Line
     ensures { Pushed l s.now result }
 {
-    let mut out = l;
-    let mut i: usize = 0;
-    while i < s.len() {
-        out = push(out, s[i]);
-        i += 1;
+    for &b in s {
+        l = push(l, b);
     }
-    out
+    l
 }
 
 // n in decimal, with no leading zero.
 pub fn push_decimal(l: Line, n: u64) -> Line
     ensures { Pushed l (decimal n) result }
 {
-    if n < 10 {
-        return push(l, (48 + n) as u8);
-    }
-    let front = push_decimal(l, n / 10);
-    push(front, (48 + n % 10) as u8)
+    let front = if n < 10 { l } else { push_decimal(l, n / 10) };
+    push(front, b'0' + (n % 10) as u8)
 }
 
 // A tab and a name.
 pub fn push_field(l: Line, s: &[u8]) -> Line
     ensures { Pushed l (9 ∷ s.now) result }
 {
-    push_bytes(push(l, 9), s)
+    push_bytes(push(l, b'\t'), s)
 }
 
 // A tab and a number.
 pub fn push_number(l: Line, n: u64) -> Line
     ensures { Pushed l (9 ∷ decimal n) result }
 {
-    push_decimal(push(l, 9), n)
+    push_decimal(push(l, b'\t'), n)
 }
 
 // The first two fields of a line: its letter and a name.
@@ -101,33 +88,25 @@ pub fn start(letter: u8, name: &[u8]) -> Line
 pub fn name_line(letter: u8, name: &[u8]) -> Line
     ensures { Built (line ((letter ∷ []) ⇥ name.now)) result }
 {
-    push(start(letter, name), 10)
+    push(start(letter, name), b'\n')
 }
 
 // A line of a letter, a name and a number.
 pub fn number_line(letter: u8, name: &[u8], n: u64) -> Line
     ensures { Built (line ((letter ∷ []) ⇥ name.now ⇥ decimal n)) result }
 {
-    push(push_number(start(letter, name), n), 10)
+    push(push_number(start(letter, name), n), b'\n')
 }
 
 // Copies the line into out at a position and answers the position after it. Where it does not fit nothing is written.
-pub fn append(out: &mut [u8], at: usize, l: Line) -> Room
+pub fn append(out: &mut [u8], at: usize, l: Line) -> Option<usize>
     ensures { (result ≡ room_after out.old at (text_of l)) × (out.new ≡ written out.old at (text_of l)) }
 {
     let n = size(l);
-    if out.len() < at {
-        return Room::Full;
+    let end = at.checked_add(n)?;
+    if out.len() < end {
+        return None;
     }
-    let room = out.len() - at;
-    if room < n {
-        return Room::Full;
-    }
-    let bytes = l.bytes;
-    let mut i = 0;
-    while i < n {
-        out[at + i] = bytes[i];
-        i += 1;
-    }
-    Room::At(at + n)
+    out[at..end].copy_from_slice(&l.bytes[..n]);
+    Some(end)
 }

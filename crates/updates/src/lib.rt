@@ -17,54 +17,57 @@ pub fn power_good(chain: Chain, w: Work, res: PowerOnResult) -> Work
 {
     match res {
         PowerOnResult::Provisioned => entry::enter_walk(chain, w),
-        PowerOnResult::Unprovisioned => entry::enter_locked(w),
-        PowerOnResult::SelfVerificationFailed => entry::enter_locked(w),
+        PowerOnResult::Unprovisioned | PowerOnResult::SelfVerificationFailed => {
+            entry::enter_locked(w)
+        }
     }
 }
 
-pub fn attestation_challenge(w: Work) -> Work
+pub fn attestation_challenge(mut w: Work) -> Work
     ensures { DoesAll w attest result }
 {
-    machine::say(w, Effect::SignAttestation)
+    w.sink.emit(Effect::SignAttestation);
+    w
 }
 
-pub fn update_deferred(w: Work) -> Work
+pub fn update_deferred(mut w: Work) -> Work
     ensures { DoesAll w defer result }
 {
-    machine::say(w, Effect::ReportUpdateDeferred)
+    w.sink.emit(Effect::ReportUpdateDeferred);
+    w
 }
 
-pub fn boot_confirmed(w: Work, id: ComponentId) -> Work
+pub fn boot_confirmed(mut w: Work, id: ComponentId) -> Work
     ensures { DoesAll w (confirm id) result }
 {
-    let v = machine::say(w, Effect::CommitSvnFloor(id));
-    machine::with_window(v, false)
+    w.sink.emit(Effect::CommitSvnFloor(id));
+    w.rot.pending_commit = false;
+    w
 }
 
 // Only while an activated update waits for its commit.
 pub fn commit_timeout(w: Work) -> Work
     ensures { DoesAll w commit_timeout result }
 {
-    let rot = w.rot;
-    if rot.pending_commit {
+    if w.rot.pending_commit {
         return entry::enter_locked(w);
     }
     w
 }
 
-pub fn update_verified(chain: Chain, w: Work) -> Work
+pub fn update_verified(chain: Chain, mut w: Work) -> Work
     requires { Sane chain w }
     ensures { Does (size chain) w update_verified result }
 {
-    let v = machine::say(w, Effect::ActivateUpdate);
-    let u = machine::with_window(v, true);
-    entry::enter_ready(chain, u)
+    w.sink.emit(Effect::ActivateUpdate);
+    w.rot.pending_commit = true;
+    entry::enter_ready(chain, w)
 }
 
-pub fn update_rejected(chain: Chain, w: Work) -> Work
+pub fn update_rejected(chain: Chain, mut w: Work) -> Work
     requires { Sane chain w }
     ensures { Does (size chain) w update_rejected result }
 {
-    let v = machine::say(w, Effect::DiscardStaged);
-    entry::enter_ready(chain, v)
+    w.sink.emit(Effect::DiscardStaged);
+    entry::enter_ready(chain, w)
 }

@@ -4,11 +4,9 @@
 // 1 Isolable, 2 Cascading), region, dependency (256 for none). Any byte that is no digit ends a number.
 #![tactic(auto)]
 
-ghost use Rattle.std.specs.Prelude.{◌≤◌, length, IfOk};
-
-use components::ComponentList;
+use components::{Answer, ComponentList};
 use std::io;
-use std::io::{Read, Stdin, Stdout};
+use std::io::{Read, Stdout};
 
 // The line so far: its entries, the numbers of the entry at hand behind the length, and the number at hand.
 #[derive(Clone, Copy)]
@@ -22,87 +20,60 @@ struct Line {
 fn new_line() -> Line {
     Line {
         list: ComponentList::new(),
-        fields: [0u64; 6],
+        fields: [0; 6],
         field: 0,
         number: 0,
     }
 }
 
-fn write_answer(out: Stdout, list: ComponentList, len: u64) -> io::Result<()> {
-    let mut l = list;
-    l.len = len as usize;
-    let a = l.verdict().answer();
+fn write_answer(out: Stdout, mut list: ComponentList, len: u64) -> io::Result<()> {
+    list.len = len as usize;
+    let a = Answer::from(list.verdict());
     println!(out; "{} {} {}", a.number, a.place, a.other)
 }
 
 // A number has ended: it is kept, and with an entry's last number the entry is.
-fn end_number(line: Line) -> Line {
-    let mut next = line;
+fn end_number(line: &mut Line) {
     let at = line.field % 6;
-    next.fields[at] = line.number;
-    next.number = 0;
+    line.fields[at] = line.number;
+    line.number = 0;
     if at < 5 {
-        next.field = at + 1;
-        return next;
+        line.field = at + 1;
+        return;
     }
-    let fields = next.fields;
-    let list = line.list;
-    next.list = list.push(cases::component_of(
-        fields[1], fields[2], fields[3], fields[4], fields[5],
-    ));
-    next.field = 1;
-    next
+    let [_, id, kind, policy, region, dependency] = line.fields;
+    line.list = line
+        .list
+        .push(cases::component_of(id, kind, policy, region, dependency));
+    line.field = 1;
 }
 
 // The bytes of a chunk, one after the other.
-fn feed(out: Stdout, line: Line, chunk: &[u8]) -> io::Result<Line> {
-    let mut at: Line = line;
-    let mut i: usize = 0;
-    while i < chunk.len() {
-        let b = chunk[i];
-        i += 1;
-        if b < 48 || 57 < b {
-            at = end_number(at);
+fn feed(out: Stdout, line: &mut Line, chunk: &[u8]) -> io::Result<()> {
+    for &b in chunk {
+        if b.is_ascii_digit() {
+            line.number = cases::with_digit(line.number, u64::from(b % 48));
         } else {
-            at.number = cases::with_digit(at.number, (b % 48) as u64);
+            end_number(line);
         }
-        if b == 10 {
-            let list = at.list;
-            write_answer(out, list, at.fields[0])?;
-            at = new_line();
+        if b == b'\n' {
+            write_answer(out, line.list, line.fields[0])?;
+            *line = new_line();
         }
     }
-    Ok(at)
+    Ok(())
 }
 
-// Reads until the buffer is full or the input ends, and answers how many bytes there are.
-fn read_full(from: Stdin, buf: &mut [u8]) -> io::Result<usize>
-    ensures { IfOk result (λ n. n ≤ length buf.new) }
-{
-    let mut input = from;
-    let mut done: usize = 0;
-    while done < buf.len() {
-        let n = input.read(&mut buf[done..])?;
-        if n == 0 {
-            return Ok(done);
-        }
-        done += n;
-    }
-    Ok(done)
-}
-
-// At most 65,536 chunks, so that the program ends whatever it is fed.
 fn main(rt: HostRuntime) -> io::Result<()> {
+    let mut input = rt.stdin();
     let mut line = new_line();
     let mut chunk = [0u8; 65536];
-    let mut turn: usize = 0;
-    while turn < 65536 {
-        let n = read_full(rt.stdin(), &mut chunk)?;
+    for _ in 0..u64::MAX {
+        let n = input.read(&mut chunk)?;
         if n == 0 {
-            return Ok(());
+            break;
         }
-        line = feed(rt.stdout(), line, &chunk[..n])?;
-        turn += 1;
+        feed(rt.stdout(), &mut line, &chunk[..n])?;
     }
     Ok(())
 }

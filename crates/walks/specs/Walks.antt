@@ -1,13 +1,11 @@
 -- Section 3: verdicts on firmware and boot progress, each rule from a machine to the next one and the effects of the step.
-use Rattle.std.specs.Prelude.{List, [], ◌∷◌, suc, eqb, ltb, length}
+use Rattle.std.specs.Prelude.{List, [], ◌∷◌, suc, eqb, ltb, length, Option, None, Some}
 use Rattle.model.specs.Vocabulary.{pick}
 use Rattle.components.specs.Chain.{position, same_id}
 use Rattle.model.specs.declared.ComponentId.{ComponentId}
 use Rattle.model.specs.declared.Component.{Component}
 use Rattle.model.specs.declared.ComponentKind.{ComponentKind}
 use Rattle.model.specs.declared.ComponentKind.TheVariants.{Active, Passive}
-use Rattle.model.specs.declared.OptionId.{OptionId}
-use Rattle.model.specs.declared.OptionId.TheVariants.{None, Some}
 use Rattle.model.specs.declared.State.{State}
 use Rattle.model.specs.declared.State.TheVariants.{PowerOnReset, PreSupervision, AwaitingReady, Ready, Updating, Recovering, Locked}
 use Rattle.model.specs.declared.Effect.TheVariants.{ReleaseReset}
@@ -46,7 +44,7 @@ abbrev pub progress : List Component → ComponentId → Core → Out
 progress ch i c = stay (no_wait ch i c)
 
 -- The component that AwaitingReady waits for.
-abbrev pub awaited : State → OptionId
+abbrev pub awaited : State → Option ComponentId
 awaited PowerOnReset = None
 awaited PreSupervision = None
 awaited (AwaitingReady o) = o
@@ -56,7 +54,7 @@ awaited (Recovering f) = None
 awaited Locked = None
 
 -- ComponentReady in AwaitingReady: for its own id also Ready if the cursor is at the end, else AwaitingReady(none).
-abbrev pub component_ready : List Component → ComponentId → OptionId → Core → Out
+abbrev pub component_ready : List Component → ComponentId → Option ComponentId → Core → Out
 component_ready ch i None c = stay (no_wait ch i c)
 component_ready ch i (Some j) c = pick (same_id j i)
     (pick (ltb c.cursor (length ch)) (stay (in_state (AwaitingReady None) (no_wait ch i c))) (enter_ready (no_wait ch i c)))

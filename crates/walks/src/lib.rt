@@ -10,24 +10,16 @@ ghost use Rattle.walks.specs.Walks.{released_in, pass, verify_failed, progress, 
 
 use chain::Chain;
 use machine::Work;
-use model::{ComponentId, ComponentKind, Effect, OptionId, State};
+use model::{ComponentId, ComponentKind, Effect, State};
 use store::Status;
 
 // The state of a walk that released a component: an Active one released in PreSupervision is waited for.
 fn released_in(state: State, kind: ComponentKind, id: ComponentId) -> State
     ensures { result ≡ released_in state kind id }
 {
-    match state {
-        State::PowerOnReset => State::PowerOnReset,
-        State::PreSupervision => match kind {
-            ComponentKind::Active => State::AwaitingReady(OptionId::Some(id)),
-            ComponentKind::Passive => State::PreSupervision,
-        },
-        State::AwaitingReady(o) => State::AwaitingReady(o),
-        State::Ready => State::Ready,
-        State::Updating => State::Updating,
-        State::Recovering(f) => State::Recovering(f),
-        State::Locked => State::Locked,
+    match (state, kind) {
+        (State::PreSupervision, ComponentKind::Active) => State::AwaitingReady(Some(id)),
+        _ => state,
     }
 }
 
@@ -36,21 +28,17 @@ pub fn verification_passed(chain: Chain, w: Work, id: ComponentId, p: usize) -> 
     requires { Placed chain w id p }
     ensures { Does (size chain) w (pass (entries chain) id) result }
 {
-    let cursor = w.rot.cursor;
-    if p != cursor {
+    if p != w.rot.cursor {
         return w;
     }
-    let n = chain.count();
-    let kind = chain.kind_at(p);
-    let state = w.state;
-    let next = released_in(state, kind, id);
+    let next = released_in(w.state, chain.kind_at(p), id);
     let on = Status {
         retry: 0,
         awaiting_boot: true,
         released: true,
     };
     let v = machine::say(w, Effect::ReleaseReset(id));
-    let u = machine::put_status(v, n, p, on);
+    let u = machine::put_status(v, chain.count(), p, on);
     entry::walk_on(chain, u, p + 1, next)
 }
 
@@ -59,9 +47,7 @@ pub fn verification_failed(chain: Chain, w: Work, id: ComponentId, p: usize) -> 
     requires { Placed chain w id p }
     ensures { Does (size chain) w (verify_failed (entries chain) id) result }
 {
-    let n = chain.count();
-    let rot = w.rot;
-    if machine::is_gated(rot, n, p) {
+    if machine::is_gated(w.rot, chain.count(), p) {
         return w;
     }
     entry::enter_recovering(chain, w, id, p)
@@ -72,8 +58,7 @@ pub fn clear_awaiting_boot(chain: Chain, w: Work, id: ComponentId, p: usize) -> 
     ensures { Does (size chain) w (progress (entries chain) id) result }
 {
     let n = chain.count();
-    let rot = w.rot;
-    let s = machine::status_at(rot, n, p);
+    let s = machine::status_at(w.rot, n, p);
     let up = Status {
         retry: s.retry,
         awaiting_boot: false,
@@ -83,17 +68,12 @@ pub fn clear_awaiting_boot(chain: Chain, w: Work, id: ComponentId, p: usize) -> 
 }
 
 // The component that AwaitingReady waits for.
-pub fn waits_in(state: State) -> OptionId
+pub fn waits_in(state: State) -> Option<ComponentId>
     ensures { result ≡ awaited state }
 {
     match state {
-        State::PowerOnReset => OptionId::None,
-        State::PreSupervision => OptionId::None,
         State::AwaitingReady(o) => o,
-        State::Ready => OptionId::None,
-        State::Updating => OptionId::None,
-        State::Recovering(_) => OptionId::None,
-        State::Locked => OptionId::None,
+        _ => None,
     }
 }
 
@@ -103,24 +83,17 @@ pub fn component_ready(
     w: Work,
     id: ComponentId,
     p: usize,
-    waits_for: OptionId,
+    waits_for: Option<ComponentId>,
 ) -> Work
     requires { Placed chain w id p }
     ensures { Does (size chain) w (component_ready (entries chain) id waits_for) result }
 {
     let v = clear_awaiting_boot(chain, w, id, p);
-    match waits_for {
-        OptionId::None => v,
-        OptionId::Some(own) => {
-            if own.0 != id.0 {
-                return v;
-            }
-            let n = chain.count();
-            let cursor = v.rot.cursor;
-            if cursor < n {
-                return machine::in_state(v, State::AwaitingReady(OptionId::None));
-            }
-            entry::enter_ready(chain, v)
-        }
+    if waits_for != Some(id) {
+        return v;
     }
+    if v.rot.cursor < chain.count() {
+        return machine::in_state(v, State::AwaitingReady(None));
+    }
+    entry::enter_ready(chain, v)
 }

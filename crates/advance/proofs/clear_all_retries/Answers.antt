@@ -1,5 +1,5 @@
 -- `clear_all_retries` meets its contract: clearing what is stored clears what is seen.
-use mathlib.Core.Path.{ap}
+use mathlib.Core.Path.{refl, ap}
 use mathlib.Core.List.{List}
 use Rattle.isolated.specs.Flags.{flags}
 use Rattle.machine.specs.declared.ComponentStatus.{ComponentStatus}
@@ -13,7 +13,7 @@ unfolding statuses_of
 returns c =
     let w = c.args.w in
     let fit = c.requires in
-    ran-rot c.with_rot.ensures
+    ran-rot refl
     (ap (λ (st : List ComponentStatus). statuses_are st (core_of c.args.n w))
-    (clear-view c.args.n (flags w.rot.isolated) w.rot.statuses c.cleared-none.ensures))
+    (clear-view c.args.n (flags w.rot.isolated) w.rot.statuses c.clear_retries.ensures))
     (record { clean = fit.clean; low = fit.low })

@@ -1,41 +1,33 @@
 -- `quiet_one` meets its contract: nothing where the component is not released, and else the flags and one effect.
-use mathlib.Core.Path.{sym, ap, ◌∙◌, subst}
-use mathlib.Core.Bool.{false}
-use Prim.Native.Nat.{ℕ}
+use Rattle.std.proofs.Common.{◌≡◌, ◌≤◌, refl, ap, ◌∙◌, length, length-take, rules, arith}
 use Rattle.model.specs.declared.Effect.TheVariants.{AssertReset}
-use Rattle.store.specs.declared.Status.{Status}
+use Rattle.chain.specs.declared.Chain.{Chain}
 use Rattle.chain.specs.Tables.{entries, size}
 use Rattle.machine.specs.declared.ComponentStatus.{ComponentStatus}
-use Rattle.machine.specs.Status.{status_at}
-use Rattle.machine.specs.View.{core_of, statuses_of}
-use Rattle.machine.specs.Acts.{Does, putting}
-use Rattle.machine.proofs.Runs.{ran-none, ran-as, ran-say}
+use Rattle.machine.specs.Status.{quiet}
+use Rattle.machine.specs.View.{core_of}
+use Rattle.machine.proofs.Runs.{ran-none, ran-as, ran-emit}
+use Rattle.machine.proofs.Stored.{off, stored_at, ran-change}
 use Rattle.advance.proofs.Steps.{quiet-on, quiet-off}
 use Rattle.advance.proofs.quiet_one.Goals as goal
 
--- What is stored of a status whose flags go off.
-abbrev off : ComponentStatus → Status
-off x = record { retry = x.retry; awaiting_boot = false; released = false }
+few : (chain : Chain) → length chain.list.entries ≡ 255 → size chain ≤ 255
+few chain room = omega (arith, length-take chain.list.len chain.list.entries)
 
-pub returns-then-s : goal.returns-then-s
-returns-then-s c =
+pub returns-then-w-p : goal.returns-then-w-p
+returns-then-w-p c =
     let a = c.args in
-    let k = c.count-n.ensures.0 in
-    let old = c.status_at-s in
-    let same = old.ensures ∙ ap (λ (m : ℕ). status_at (statuses_of m a.w.rot) a.p) k in
-    let on = sym (ap (λ (x : ComponentStatus). x.released) same) ∙ c.if-s.true in
-    let id = c.id_at-id in
-    let put = c.put_status-v in
-    let core = core_of (size a.chain) a.w in
-    ran-as (quiet-on (entries a.chain) a.p core id.result id.ensures on)
-    (ran-say (AssertReset id.result)
-    (ran-as (ap (λ (x : ComponentStatus). putting (off x) a.p core) same)
-    (subst (λ (m : ℕ). Does m a.w (putting (off old.result) a.p) put.result) k put.ensures))
-    c.say.ensures)
+    let n = size a.chain in
+    let own = c.well_formed.1.0 in
+    let low = few a.chain (search rules) in
+    let on = ap (λ (x : ComponentStatus). x.released) (stored_at n a.w a.p own low c.requires.0) ∙ c.if-w-p.true in
+    ran-as (quiet-on (entries a.chain) a.p (core_of n a.w) c.id_at.result c.id_at.ensures on)
+    (ran-emit (AssertReset c.id_at.result) (ran-change n a.w a.p own low c.requires.0 quiet off (λ b s. refl) c.requires.1) c.emit.ensures)
 
-pub returns : goal.returns
-returns c =
+pub returns-else-w-p : goal.returns-else-w-p
+returns-else-w-p c =
     let a = c.args in
-    let k = c.count-n.ensures.0 in
-    let same = c.status_at-s.ensures ∙ ap (λ (m : ℕ). status_at (statuses_of m a.w.rot) a.p) k in
-    ran-as (quiet-off (entries a.chain) a.p (core_of (size a.chain) a.w) (sym (ap (λ (x : ComponentStatus). x.released) same) ∙ c.if-s.false)) (ran-none c.requires.1)
+    let n = size a.chain in
+    let low = few a.chain (search rules) in
+    let still = ap (λ (x : ComponentStatus). x.released) (stored_at n a.w a.p c.well_formed.1.0 low c.requires.0) ∙ c.if-w-p.false in
+    ran-as (quiet-off (entries a.chain) a.p (core_of n a.w) still) (ran-none c.requires.1)

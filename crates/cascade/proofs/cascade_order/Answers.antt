@@ -1,7 +1,6 @@
 -- At first the queue is the root; each turn its front puts its direct dependents at its end, and there is room for
 -- them; where it is used up it is the cascade.
 use Rattle.std.proofs.Common.{arith, rules, ◌≡◌, ◌∙◌, refl, ap, [], ◌++◌, ℕ, suc, ◌+◌, ◌≤◌, ◌<◌, length, get_or, add-one, length-take}
-use Rattle.model.proofs.Arrays.{unmap}
 use Rattle.components.specs.Chain.{Sound}
 use Rattle.components.proofs.Walk.{kept-length}
 use Rattle.chain.specs.declared.Chain.{Chain}
@@ -57,27 +56,27 @@ module _ (c : Chain) (full : length c.list.entries ≡ 255) (t : Charted c) (s :
 pub loop-k-init : goal.loop-k-init
 loop-k-init c = (omega arith, refl, begun c.args.chain.list.len (entries c.args.chain) c.requires.1 c.args.root c.requires.2)
 
-pub with_dependents-order-requires : goal.with_dependents-order-requires
-with_dependents-order-requires c =
+pub put_dependents-requires : goal.put_dependents-requires
+put_dependents-requires c =
     let l = c.loop-k in
     let chain = c.args.chain in
-    let full : length chain.list.entries ≡ 255 = search (rules, unmap) in
-    let w = front chain full c.requires.0 c.requires.1 c.args.root c.requires.2 l.k l.order (omega arith) l.invariant.1 l.invariant.2 in (
+    let full : length chain.list.entries ≡ 255 = search rules in
+    let w = front chain full c.requires.0 c.requires.1 c.args.root c.requires.2 l.k l.order c.loop-k-test.true l.invariant.1 l.invariant.2 in (
       c.requires.1.few,
       omega (arith, w, kept-length chain.list full, c.requires.1.few),
       none_before chain full c.requires.0 c.requires.1 c.args.root c.requires.2 _ w,
       l.invariant.0,
-      roomy chain full c.requires.0 c.requires.1 c.args.root c.requires.2 l.k l.order (omega arith) l.invariant.1 l.invariant.2,
+      roomy chain full c.requires.0 c.requires.1 c.args.root c.requires.2 l.k l.order c.loop-k-test.true l.invariant.1 l.invariant.2,
     )
 
 pub loop-k-preserved : goal.loop-k-preserved
 loop-k-preserved c =
     let l = c.loop-k in
     let chain = c.args.chain in
-    let full : length chain.list.entries ≡ 255 = search (rules, unmap) in
-    let e = c.with_dependents-order.ensures in
-    let r = roomy chain full c.requires.0 c.requires.1 c.args.root c.requires.2 l.k l.order (omega arith) l.invariant.1 l.invariant.2 in
-    let g = more chain full c.requires.0 c.requires.1 c.args.root c.requires.2 l.k l.order (omega arith) l.invariant.1 l.invariant.2 in
+    let full : length chain.list.entries ≡ 255 = search rules in
+    let e = c.put_dependents.ensures in
+    let r = roomy chain full c.requires.0 c.requires.1 c.args.root c.requires.2 l.k l.order c.loop-k-test.true l.invariant.1 l.invariant.2 in
+    let g = more chain full c.requires.0 c.requires.1 c.args.root c.requires.2 l.k l.order c.loop-k-test.true l.invariant.1 l.invariant.2 in
     (omega (arith, r, e.count, ap length e.list), e.count, rw (e.list, add-one l.k) g)
 
 pub returns : goal.returns

@@ -1,13 +1,13 @@
--- `precede` meets its contract: each arm is told which situation it is.
-use Rattle.model.specs.declared.Effect.TheVariants.{DiscardStaged, ReportUpdateAborted}
-use Rattle.machine.proofs.Runs.{ran-none, ran-say}
+-- `precede` meets its contract: an update is discarded and answered, and else nothing is done.
+use Rattle.std.proofs.Common.{rules}
+use Rattle.machine.specs.View.{says}
+use Rattle.machine.proofs.Runs.{ran-none}
 use Rattle.corruption.proofs.precede.Goals as goal
 
-pub returns-in-Walking : goal.returns-in-Walking
-returns-in-Walking c = λ n fit. rw c.in-Walking.is (ran-none fit)
-
 pub returns-in-Updated : goal.returns-in-Updated
-returns-in-Updated c = λ n fit. rw c.in-Updated.is (ran-say ReportUpdateAborted (ran-say DiscardStaged (ran-none fit) c.say-v.ensures) c.say.ensures)
+unfolding says
+returns-in-Updated c = λ n fit. search (rules, ran-none)
 
-pub returns-in-Elsewhere : goal.returns-in-Elsewhere
-returns-in-Elsewhere c = λ n fit. rw c.in-Elsewhere.is (ran-none fit)
+pub returns-in-Walking : goal.returns-in-Walking
+unfolding says
+returns-in-Walking c = λ n fit. search (rules, ran-none)

@@ -2,8 +2,8 @@
 use Rattle.driver.proofs.Moves.{plan-is, answers-end, answers_next}
 use Rattle.driver.proofs.answer_by_line.Goals as goal
 
-pub returns-then-sheet-at : goal.returns-then-sheet-at
-returns-then-sheet-at c = λ limit n g. plan-is (answers-end c.requires c.if-sheet-at.true) c.answer.ensures
+pub returns-then-sheet-c : goal.returns-then-sheet-c
+returns-then-sheet-c c = λ limit n g. plan-is (answers-end c.requires c.if-sheet-c.true) c.answer.ensures
 
 pub returns : goal.returns
 returns c = λ limit n g.

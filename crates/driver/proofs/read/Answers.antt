@@ -2,8 +2,8 @@
 use Rattle.driver.proofs.Moves.{plan-is, reads_end, reads-next}
 use Rattle.driver.proofs.read.Goals as goal
 
-pub returns-then-sheet-at : goal.returns-then-sheet-at
-returns-then-sheet-at c = λ limit. plan-is (reads_end c.requires c.if-sheet-at.true) c.tell.ensures
+pub returns-then-sheet-c : goal.returns-then-sheet-c
+returns-then-sheet-c c = λ limit. plan-is (reads_end c.requires c.if-sheet-c.true) c.tell.ensures
 
 pub returns : goal.returns
 returns c = λ limit.

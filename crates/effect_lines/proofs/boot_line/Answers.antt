@@ -9,5 +9,5 @@ pub returns : goal.returns
 returns c =
     let a = c.args in
     let small : a.id.0 < 10 ^ 3 = search rules in
-    exactly _ (grown (grown (grown (grown c.start.ensures c.push_number-l.ensures) c.push_number.ensures) c.push_cause.ensures) c.push.ensures) (simp append_assoc)
+    exactly _ (grown (grown (grown (grown c.start.ensures c.push_number-l.ensures) c.push_number.ensures) c.push_cause-l.ensures) c.push.ensures) (simp append_assoc)
     (simp length-append (omega (arith, decimal-below 2 a.id.0 small, decimal-short a.checkpoint, cause-short a.kind)))

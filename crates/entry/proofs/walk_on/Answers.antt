@@ -3,19 +3,10 @@ use native.Mathlib.Omega.{arith}
 use mathlib.Core.Path.{ap}
 use Rattle.chain.specs.Tables.{entries, size}
 use Rattle.machine.specs.View.{Core, core_of}
-use Rattle.machine.proofs.Runs.{ran-as, ran-state, ran_then}
+use Rattle.machine.proofs.Runs.{ran-as, ran_then}
 use Rattle.entry.specs.Entry.{enter_ready}
-use Rattle.entry.proofs.Outcomes.{onward-some, onward-none}
+use Rattle.entry.proofs.Outcomes.{onward-none}
 use Rattle.entry.proofs.walk_on.Goals as goal
-
-pub returns-then-cursor-n : goal.returns-then-cursor-n
-returns-then-cursor-n c =
-    let a = c.args in
-    let d = c.advance_to_next_ungated-v.ensures in
-    let e = ap (λ (k : Core). k.cursor) d.core in
-    ran-as
-    (onward-some (entries a.chain) a.p a.state (core_of (size a.chain) a.w) (omega (arith, e, c.count-n.ensures.0, c.if-cursor-n.true)))
-    (ran-state a.state d c.in_state.ensures)
 
 pub returns : goal.returns
 returns c =
@@ -23,5 +14,5 @@ returns c =
     let d = c.advance_to_next_ungated-v.ensures in
     let e = ap (λ (k : Core). k.cursor) d.core in
     ran-as
-    (onward-none (entries a.chain) a.p a.state (core_of (size a.chain) a.w) (omega (arith, e, c.count-n.ensures.0, c.if-cursor-n.false, d.fit.low)))
+    (onward-none (entries a.chain) a.p a.state (core_of (size a.chain) a.w) (omega (arith, e)))
     (ran_then enter_ready d c.enter_ready.ensures)

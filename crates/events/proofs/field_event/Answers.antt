@@ -1,21 +1,16 @@
--- `field_event` meets its contract: the tests go through the table in its order.
-use Rattle.std.proofs.Common.{◌∙◌}
-use Rattle.events.specs.Read.{field_event}
-use Rattle.fields.proofs.Tables.{here, next, none}
+-- `field_event` meets its contract.
+use Rattle.std.proofs.Common.{◌≡◌, refl, ◌∙◌, None}
+use Rattle.model.specs.Vocabulary.{id_of}
+use Rattle.fields.specs.Fields.{number_of}
+use Rattle.events.proofs.Cases.{with-number}
+use Rattle.fields.proofs.Tables.{no-text}
+use Rattle.events.specs.Read.{field_event, id_fields, id_event, fault_event}
 use Rattle.events.proofs.field_event.Goals as goal
 
-pub returns-then-same : goal.returns-then-same
-unfolding field_event
-returns-then-same c = c.power_good.ensures ∙ here _ _ _ c.same.ensures _ _ _ c.if-same.true
-
-pub returns-then-same-2 : goal.returns-then-same-2
-unfolding field_event
-returns-then-same-2 c =
-    c.boot_fields.ensures
-    ∙ next _ _ _ c.same.ensures _ _ _ c.if-same.false (here _ _ _ c.same-2.ensures _ _ _ c.if-same-2.true)
-
-pub returns : goal.returns
-unfolding field_event
-returns c =
-    c.id_fields.ensures
-    ∙ next _ _ _ c.same.ensures _ _ _ c.if-same.false (next _ _ _ c.same-2.ensures _ _ _ c.if-same-2.false (none _ _))
+pub returns-in_err-name : goal.returns-in_err-name
+unfolding field_event id_fields id_event fault_event
+returns-in_err-name c =
+    let f = c.args.name.now in
+    let no = c.in_err-name.ensures in
+    let i : None ≡ id_fields f c.args.l.now = with-number (λ w. None ≡ w) (number_of 255 c.args.l.now) _ None (λ m q. no-text f _ _ refl no ∙ no-text f _ (fault_event f (id_of m)) refl no) refl in
+    c.from_residual.ensures ∙ i ∙ no-text f _ (id_fields f c.args.l.now) refl no

@@ -1,41 +1,12 @@
--- `plain_event` meets its contract: the tests go through the table in its order.
-use Rattle.std.proofs.Common.{◌∙◌}
-use Rattle.events.specs.Read.{plain_event}
-use Rattle.fields.proofs.Tables.{here, next, none}
+-- `plain_event` meets its contract: bytes that are no text are no name.
+use Rattle.std.proofs.Common.{refl, ◌∙◌}
+use Rattle.fields.proofs.Tables.{no-text}
+use Rattle.events.specs.Read.{plain_event, failure_event}
 use Rattle.events.proofs.plain_event.Goals as goal
 
-pub returns-then-same : goal.returns-then-same
-unfolding plain_event
-returns-then-same c =
-    here _ _ _ c.same.ensures _ _ _ c.if-same.true
-
-pub returns-then-same-2 : goal.returns-then-same-2
-unfolding plain_event
-returns-then-same-2 c =
-    next _ _ _ c.same.ensures _ _ _ c.if-same.false
-    (here _ _ _ c.same-2.ensures _ _ _ c.if-same-2.true)
-
-pub returns-then-same-3 : goal.returns-then-same-3
-unfolding plain_event
-returns-then-same-3 c =
-    next _ _ _ c.same.ensures _ _ _ c.if-same.false
-    (next _ _ _ c.same-2.ensures _ _ _ c.if-same-2.false
-    (here _ _ _ c.same-3.ensures _ _ _ c.if-same-3.true))
-
-pub returns-then-same-4 : goal.returns-then-same-4
-unfolding plain_event
-returns-then-same-4 c =
-    next _ _ _ c.same.ensures _ _ _ c.if-same.false
-    (next _ _ _ c.same-2.ensures _ _ _ c.if-same-2.false
-    (next _ _ _ c.same-3.ensures _ _ _ c.if-same-3.false
-    (here _ _ _ c.same-4.ensures _ _ _ c.if-same-4.true)))
-
-pub returns : goal.returns
-unfolding plain_event
-returns c =
-    c.failure_event.ensures
-    ∙ next _ _ _ c.same.ensures _ _ _ c.if-same.false
-    (next _ _ _ c.same-2.ensures _ _ _ c.if-same-2.false
-    (next _ _ _ c.same-3.ensures _ _ _ c.if-same-3.false
-    (next _ _ _ c.same-4.ensures _ _ _ c.if-same-4.false
-    (none _ _))))
+pub returns-in_err-as_text : goal.returns-in_err-as_text
+unfolding plain_event failure_event
+returns-in_err-as_text c =
+    let f = c.args.f.now in
+    let no = c.in_err-as_text.ensures in
+    c.from_residual.ensures ∙ no-text f _ _ refl no ∙ no-text f _ (failure_event f) refl no

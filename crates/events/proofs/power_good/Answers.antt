@@ -1,30 +1,9 @@
--- `power_good` meets its contract: the tests go through the table in its order.
+-- `power_good` meets its contract: bytes that are no text are no name.
+use Rattle.std.proofs.Common.{refl, ◌∙◌}
+use Rattle.fields.proofs.Tables.{no-text}
 use Rattle.events.specs.Read.{power_good}
-use Rattle.fields.proofs.Tables.{here, next, none}
 use Rattle.events.proofs.power_good.Goals as goal
 
-pub returns-then-same : goal.returns-then-same
+pub returns-in_err-as_text : goal.returns-in_err-as_text
 unfolding power_good
-returns-then-same c =
-    here _ _ _ c.same.ensures _ _ _ c.if-same.true
-
-pub returns-then-same-2 : goal.returns-then-same-2
-unfolding power_good
-returns-then-same-2 c =
-    next _ _ _ c.same.ensures _ _ _ c.if-same.false
-    (here _ _ _ c.same-2.ensures _ _ _ c.if-same-2.true)
-
-pub returns-then-same-3 : goal.returns-then-same-3
-unfolding power_good
-returns-then-same-3 c =
-    next _ _ _ c.same.ensures _ _ _ c.if-same.false
-    (next _ _ _ c.same-2.ensures _ _ _ c.if-same-2.false
-    (here _ _ _ c.same-3.ensures _ _ _ c.if-same-3.true))
-
-pub returns : goal.returns
-unfolding power_good
-returns c =
-    next _ _ _ c.same.ensures _ _ _ c.if-same.false
-    (next _ _ _ c.same-2.ensures _ _ _ c.if-same-2.false
-    (next _ _ _ c.same-3.ensures _ _ _ c.if-same-3.false
-    (none _ _)))
+returns-in_err-as_text c = c.from_residual.ensures ∙ no-text c.args.f.now _ _ refl c.in_err-as_text.ensures

@@ -1,41 +1,45 @@
--- `digits` meets its contract. The two tests against `most` are the definition's one: d at most `most`, and n at most
--- (most - d) / 10, say that n * 10 + d is at most `most`.
-use Rattle.std.proofs.Common.{arith, sym, ◌∙◌}
-use Rattle.fields.proofs.Numbers.{digits_low, digits-high, digits-over, digits-next, digits-end}
+-- `digits` meets its contract. What is too large for a word is larger than `most` too.
+use Rattle.std.proofs.Common.{arith, ◌≡◌, sym, ap, ◌∙◌, [], drop, drop_of_length-le}
+use Rattle.fields.specs.Fields.{digits_from}
+use Rattle.fields.proofs.Numbers.{digits-other, digits-over, digits-next}
 use Rattle.fields.proofs.digits.Goals as goal
 
-pub returns-then-b-lt48 : goal.returns-then-b-lt48
-returns-then-b-lt48 c =
-    let l = c.loop-i in
-    let a = c.args in
-    sym (l.invariant.1 ∙ digits_low a.f.now l.i a.most l.n (omega arith) (omega arith))
+pub returns-then-not-is_ascii_digit : goal.returns-then-not-is_ascii_digit
+returns-then-not-is_ascii_digit c =
+    let l = c.loop-b in
+    let f = c.args.f.now in
+    sym (l.invariant.1 ∙ digits-other f l.b-index _ l.n (omega arith) c.if-not-is_ascii_digit.ensures.cases)
 
-pub returns-then-b-gt57 : goal.returns-then-b-gt57
-returns-then-b-gt57 c =
-    let l = c.loop-i in
-    let a = c.args in
-    sym (l.invariant.1 ∙ digits-high a.f.now l.i a.most l.n (omega arith) (omega arith) (omega arith))
+pub returns-in_err-checked_mul : goal.returns-in_err-checked_mul
+returns-in_err-checked_mul c =
+    let l = c.loop-b in
+    let f = c.args.f.now in
+    c.from_residual.ensures
+    ∙ sym (l.invariant.1 ∙ digits-over f l.b-index _ l.n (omega arith) c.if-not-is_ascii_digit.ensures.cases (omega (arith, c.in_err-checked_mul.ensures)))
 
-pub returns-then-most-d : goal.returns-then-most-d
-returns-then-most-d c =
-    let l = c.loop-i in
-    let a = c.args in
-    sym (l.invariant.1 ∙ digits-over a.f.now l.i a.most l.n (omega arith) (omega arith) (omega arith) (omega arith))
+pub returns-in_err-n : goal.returns-in_err-n
+returns-in_err-n c =
+    let l = c.loop-b in
+    let f = c.args.f.now in
+    c.from_residual-in_err-n.ensures
+    ∙ sym (l.invariant.1 ∙ digits-over f l.b-index _ l.n (omega arith) c.if-not-is_ascii_digit.ensures.cases (omega (arith, c.in_ok-checked_mul.ensures, c.in_err-n.ensures)))
 
-pub returns-then-most-d-2 : goal.returns-then-most-d-2
-returns-then-most-d-2 c =
-    let l = c.loop-i in
-    let a = c.args in
-    sym (l.invariant.1 ∙ digits-over a.f.now l.i a.most l.n (omega arith) (omega arith) (omega arith) (omega arith))
+pub returns-then-most-n : goal.returns-then-most-n
+returns-then-most-n c =
+    let l = c.loop-b in
+    let f = c.args.f.now in
+    sym (l.invariant.1 ∙ digits-over f l.b-index _ l.n (omega arith) c.if-not-is_ascii_digit.ensures.cases (omega (arith, c.in_ok-checked_mul.ensures, c.in_ok-n.ensures)))
 
-pub loop-i-preserved : goal.loop-i-preserved
-loop-i-preserved c =
-    let l = c.loop-i in
-    let a = c.args in
-    (omega arith, l.invariant.1 ∙ digits-next a.f.now l.i a.most l.n (omega arith) (omega arith) (omega arith) (omega arith))
+pub loop-b-preserved : goal.loop-b-preserved
+loop-b-preserved c =
+    let l = c.loop-b in
+    let f = c.args.f.now in
+    (omega arith, l.invariant.1 ∙ digits-next f l.b-index _ l.n (omega arith) c.if-not-is_ascii_digit.ensures.cases _ (omega (arith, c.in_ok-checked_mul.ensures, c.in_ok-n.ensures)) (omega arith))
 
 pub returns : goal.returns
+unfolding digits_from
 returns c =
-    let l = c.loop-i in
-    let a = c.args in
-    sym (l.invariant.1 ∙ digits-end a.f.now l.i a.most l.n (omega arith))
+    let l = c.loop-b in
+    let f = c.args.f.now in
+    let done : drop l.b-index f ≡ [] = drop_of_length-le f (omega arith) in
+    sym (l.invariant.1 ∙ ap (digits_from c.args.most l.n) done)

@@ -6,8 +6,8 @@ use Rattle.fields.proofs.Scan.{place-bound}
 use Rattle.fields.proofs.first.Goals as goal
 
 pub slice_bounds-result-end : goal.slice_bounds-result-end
-slice_bounds-result-end c = sym (length-take-le _ _ (place-bound _ _ _ c.place-t.ensures))
+slice_bounds-result-end c = sym (length-take-le _ _ (place-bound _ _ _ c.place.ensures))
 
 pub returns : goal.returns
 unfolding before
-returns c = rw c.place-t.ensures
+returns c = rw c.place.ensures

@@ -1,21 +1,13 @@
--- `place` meets its contract: the byte at i is the one that is looked for, or the loop goes on.
-use Rattle.std.proofs.Common.{arith}
-use Rattle.fields.proofs.Scan.{place_here, place-next, place_end}
+-- `place` meets its contract: what `position` finds is the place, and else the length is.
+use Rattle.std.proofs.Common.{rules, tests, eqb, ap, ◌∙◌, Option, ℕ, length, unwrap_or}
+use Rattle.std.proofs.lemmas.Iterator.{YieldsList-from_slice}
+use Rattle.std.proofs.lemmas.Iterator.Search.{position_from_yields_List}
+use Rattle.fields.proofs.Scan.{place-position}
 use Rattle.fields.proofs.place.Goals as goal
-
-pub returns-then-l-i : goal.returns-then-l-i
-returns-then-l-i c =
-    let a = c.args in
-    let i = c.loop-i.i in
-    omega (arith, place_here a.l.now i a.b (omega arith) c.if-l-i.true)
-
-pub loop-i-preserved : goal.loop-i-preserved
-loop-i-preserved c =
-    let a = c.args in
-    let i = c.loop-i.i in
-    (omega arith, omega (arith, place-next a.l.now i a.b (omega arith) c.if-l-i.false))
 
 pub returns : goal.returns
 returns c =
-    let a = c.args in
-    omega (arith, place_end a.l.now c.loop-i.i a.b (omega arith))
+    let l = c.args.l.now in
+    let b = c.args.b in
+    let found = position_from_yields_List (λ x. eqb x b) _ _ c.position.result c.position.ensures.ran (YieldsList-from_slice l cc) (λ x b q k. search (rules, tests)) in
+    c.unwrap_or.ensures ∙ ap (λ (o : Option ℕ). unwrap_or o (length l)) found ∙ place-position b l

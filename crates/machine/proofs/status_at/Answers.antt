@@ -1,31 +1,30 @@
 -- `status_at` meets its contract: within the chain and the array the two parts are joined, and elsewhere stands a new status.
-use Rattle.std.proofs.Common.{◌≡◌, Bool, ap, ◌∙◌, sym, rules, arith, length, get_or}
+use Rattle.std.proofs.Common.{ap₂, ◌∙◌, sym, rules, arith}
+use Rattle.std.proofs.lemmas.Bool.{ltb-false}
 use Rattle.isolated.specs.Flags.{flags}
 use Rattle.isolated.proofs.Laws.{length-flags}
 use Rattle.machine.specs.View.{status_of, statuses_of}
-use Rattle.model.proofs.Arrays.{unmap}
-use Rattle.machine.proofs.Laws.{unset, at-view, past-view, beyond-view}
+use Rattle.machine.proofs.Laws.{unset, at-view, past-view}
 use Rattle.machine.proofs.status_at.Goals as goal
+use Rattle.machine.proofs.status_at.Goals.{in_default-via-in-Some+else-p-n, in_default-via-in_default}
 
-pub returns-then-p-lt255 : goal.returns-then-p-lt255
+pub returns-in-Some : goal.returns-in-Some
 unfolding statuses_of
-returns-then-p-lt255 c =
+returns-in-Some c =
     let r = c.args.rot in
     let p = c.args.p in
-    let full : length r.statuses ≡ 255 = search (rules, unmap) in
+    let found = c.in-Some.ensures.lookup.3 in
     let bits = length-flags r.isolated (search rules) in
-    c.joined_with.ensures ∙ ap (λ (b : Bool). status_of b (get_or r.statuses p unset)) c.contains.ensures
-    ∙ sym (at-view c.args.n (flags r.isolated) r.statuses p (omega arith) (omega arith) (omega arith))
+    c.joined_with.ensures ∙ ap₂ status_of c.contains.ensures (found.1 unset)
+    ∙ sym (at-view c.args.n (flags r.isolated) r.statuses p (omega arith) (omega arith) found.0)
 
-pub returns-else-p-lt255 : goal.returns-else-p-lt255
+pub returns-in_default : goal.returns-in_default
 unfolding statuses_of
-returns-else-p-lt255 c =
+returns-in_default c =
     let r = c.args.rot in
-    let full : length r.statuses ≡ 255 = search (rules, unmap) in
-    sym (beyond-view c.args.n (flags r.isolated) r.statuses c.args.p (omega arith))
-
-pub returns-else-p-n : goal.returns-else-p-n
-unfolding statuses_of
-returns-else-p-n c =
-    let r = c.args.rot in
-    sym (past-view c.args.n (flags r.isolated) r.statuses c.args.p (omega arith))
+    c.joined_with-in_default.ensures ∙ sym (past-view c.args.n (flags r.isolated) r.statuses c.args.p (
+    elim c.in_default.branch [
+      | in_default-via-in-Some+else-p-n w ↦ omega arith
+      | in_default-via-in_default w ↦ omega (arith, ltb-false _ _ (sym w.in_default.ensures.lookup.0))
+    ]
+    ))

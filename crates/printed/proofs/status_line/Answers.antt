@@ -13,5 +13,5 @@ returns c =
     let s = a.status in
     let named = begun _ c.empty.ensures (chained c.push.ensures c.push_number-named.ensures) in
     let counted = grown (grown named c.push_lifecycle.ensures) c.push_number-counted.ensures in
-    exactly _ (grown (grown (grown counted c.push_flag.ensures) c.push_flag-2.ensures) c.push-2.ensures) (simp append_assoc)
+    exactly _ (grown (grown (grown counted c.push_flag.ensures) c.push_flag-flagged.ensures) c.push-2.ensures) (simp append_assoc)
     (simp length-append (omega (arith, decimal-short a.id.0, decimal-short s.retry, lifecycle-short s.lifecycle, flag-short s.awaiting_boot, flag-short s.released)))

@@ -1,21 +1,24 @@
--- `printout::replay` meets its contract: a longer input, a run that was not refused, and one that was.
-use Rattle.std.proofs.Common.{rules, arith, refl}
-use Rattle.printout.proofs.Behind.{longer-input, not-refused, refused}
+-- `printout::replay` meets its contract: a longer input, or a run, and behind it the line of a refusal.
+use Rattle.std.proofs.Common.{rules}
+use Rattle.printout.proofs.Behind.{Awaits, longer-input, run-through, not-refused, refused}
 use Rattle.printout.proofs.replay.Goals as goal
+use Rattle.printout.proofs.replay.Goals.{Joined-input-le65536, then-input-le65536, else-input-le65536}
 
-pub returns-then-input-gt65536 : goal.returns-then-input-gt65536
-returns-then-input-gt65536 c =
-    let line = c.refusal_line in
-    longer-input _ _ line.result _ c.if-input-gt65536.true refl line.ensures c.lengthened.ensures
+-- What is answered to the input, whichever it was.
+answered : (c : Joined-input-le65536) → Awaits c.args.input.now (record { bytes = c.if-input-le65536.bytes; len = c.if-input-le65536.answer.written }) c.if-input-le65536.answer
+answered c =
+    let s = c.args.input.now in
+    elim c.if-input-le65536.branch [
+      | then-input-le65536 w ↦ rw (w.bytes-is, w.answer-is) (run-through s _ _ w.run-answer.result _ (search rules) w.run-answer.ensures w.if-input-le65536.true)
+      | else-input-le65536 w ↦ rw (w.bytes-is, w.answer-is) (longer-input s _ w.if-input-le65536.false)
+    ]
 
-pub returns-then-answer-eq0 : goal.returns-then-answer-eq0
-returns-then-answer-eq0 c =
-    let run = c.run-answer in
-    not-refused _ _ _ run.result _ (search rules) run.ensures (omega arith) c.if-answer-eq0.true
+pub returns-then-answer-ne0 : goal.returns-then-answer-ne0
+returns-then-answer-ne0 c =
+    let j = (goal.at.returns-then-answer-ne0 c).Joined-input-le65536 in
+    refused _ _ j.if-input-le65536.answer (answered j) c.if-answer-ne0.true c.refusal_line.result _ c.refusal_line.ensures c.lengthen.ensures
 
-pub returns : goal.returns
-returns c =
-    let run = c.run-answer in
-    let line = c.refusal_line-2 in
-    refused _ _ _ run.result _ (search rules) run.ensures (omega arith) c.if-answer-eq0.false line.result _
-    line.ensures c.lengthened-2.ensures
+pub returns-else-answer-ne0 : goal.returns-else-answer-ne0
+returns-else-answer-ne0 c =
+    let j = (goal.at.returns-else-answer-ne0 c).Joined-input-le65536 in
+    not-refused _ _ j.if-input-le65536.answer (answered j) c.if-answer-ne0.false

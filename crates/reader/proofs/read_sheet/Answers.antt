@@ -1,45 +1,56 @@
 -- `read_sheet` meets its contract: what stands from `at` on gives the whole answer, with what the lines before it told. There
 -- are no more lines than bytes.
-use mathlib.Core.Path.{◌≡◌, sym, ◌∙◌, subst}
+use mathlib.Core.Path.{◌≡◌, refl, sym, ◌∙◌, subst}
 use mathlib.Core.List.{[]}
 use native.Mathlib.Omega.{arith}
+use denote.Enum.Bare.{sameb}
+use Rattle.std.proofs.Common.{rules}
 use Rattle.components.specs.declared.ComponentList.{ComponentList}
-use Rattle.reader.specs.Read.{pushed_all, card_before}
-use Rattle.reader.specs.declared.Part.TheVariants.{Opening}
-use Rattle.reader.proofs.Left.{Left, no-card, left-all, left-wrong, left-next, left-opening, left_end}
+use Rattle.reader.specs.contracts.Part.{the_type}
+use Rattle.reader.specs.declared.Part.{Part}
+use Rattle.reader.specs.declared.Part.TheVariants.{Opening, Cards, Script, Wrong}
+use Rattle.reader.specs.Read.{is_wrong, is_opening, retry_after, pushed_all, card_before}
+use Rattle.reader.proofs.Left.{Left, left-all, left-wrong, left-next, left-opening, left_end}
 use Rattle.reader.proofs.read_sheet.Goals as goal
-use Rattle.reader.proofs.read_sheet.Goals.{then-is_card, else-is_card}
+
+-- Both tests of the part.
+wrong : (p : Part) → is_wrong p ≡ sameb the_type p Wrong
+wrong Opening = refl
+wrong Cards = refl
+wrong Script = refl
+wrong Wrong = refl
+
+opening : (p : Part) → is_opening p ≡ sameb the_type p Opening
+opening Opening = refl
+opening Cards = refl
+opening Script = refl
+opening Wrong = refl
 
 pub loop-at-init : goal.loop-at-init
 loop-at-init c =
     let s = c.args.sheet.now in
     (omega arith, omega arith, omega arith, subst (λ (l : ComponentList). Left s 0 1 Opening 0 l) (sym c.new-list.ensures) (left-all s))
 
-pub returns-then-is_wrong : goal.returns-then-is_wrong
-returns-then-is_wrong c =
+pub returns-then-eq : goal.returns-then-eq
+returns-then-eq c =
     left-wrong _ _ _ _ _ _ c.loop-at.invariant.3 _ c.next_line-next.ensures _ c.part_after-part.ensures
-    (sym c.is_wrong.ensures ∙ c.if-is_wrong.true)
+    (wrong _ ∙ sym c.if-eq.ensures) c.loop-at.invariant.1
 
 pub loop-at-preserved : goal.loop-at-preserved
+unfolding pushed_all
 loop-at-preserved c =
-    let reads = c.next_line-next.ensures in
-    let on = reads.onward in
-    let within = reads.within in
-    let list =
-    elim c.if-is_card.branch as (λ _. c.if-is_card.list ≡ pushed_all c.loop-at.list (card_before c.next_line-next.result.row [])) [
-      | then-is_card w ↦ w.list-is ∙ w.list_after-list.ensures
-      | else-is_card w ↦ w.list-is ∙ no-card c.loop-at.list c.next_line-next.result.row (sym c.is_card.ensures ∙ w.if-is_card.false)
-    ]
-    in (
-      within,
+    let row = c.next_line-next.result.row in
+    let retry : c.match-next.max_retry ≡ retry_after c.loop-at.max_retry row = search rules in
+    let list : c.match-next.list ≡ pushed_all c.loop-at.list (card_before row []) = search rules in (
+      c.next_line-next.ensures.within,
       omega arith,
       omega arith,
-      left-next _ _ _ _ _ _ c.loop-at.invariant.3 _ reads _ c.part_after-part.ensures
-          (sym c.is_wrong.ensures ∙ c.if-is_wrong.false) _ c.retry_after-max_retry.ensures _ list,
+      left-next _ _ _ _ _ _ c.loop-at.invariant.3 _ c.next_line-next.ensures _ c.part_after-part.ensures
+          (wrong _ ∙ sym c.if-eq.ensures) _ retry _ list,
     )
 
-pub returns-then-is_opening : goal.returns-then-is_opening
-returns-then-is_opening c = left-opening _ _ _ _ _ _ c.loop-at.invariant.3 c.loop-at-test.false (sym c.is_opening.ensures ∙ c.if-is_opening.true)
+pub returns-then-eq-2 : goal.returns-then-eq-2
+returns-then-eq-2 c = left-opening _ _ _ _ _ _ c.loop-at.invariant.3 c.loop-at-test.false (opening _ ∙ sym c.if-eq-2.ensures) c.loop-at.invariant.1
 
 pub returns : goal.returns
-returns c = left_end _ _ _ _ _ _ c.loop-at.invariant.3 c.loop-at-test.false (sym c.is_opening.ensures ∙ c.if-is_opening.false)
+returns c = left_end _ _ _ _ _ _ c.loop-at.invariant.3 c.loop-at-test.false (opening _ ∙ sym c.if-eq-2.ensures)

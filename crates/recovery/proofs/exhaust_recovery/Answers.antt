@@ -1,5 +1,6 @@
 -- `exhaust_recovery` meets its contract: what was gated starts over, and what was not is given up.
-use Rattle.std.proofs.Common.{ap, ◌∙◌}
+use Rattle.std.proofs.Common.{◌≡◌, true, false, rules}
+use Rattle.chain.specs.Links.{policy_at}
 use Rattle.chain.specs.Tables.{entries}
 use Rattle.components.specs.Chain.{position}
 use Rattle.model.specs.declared.Event.TheVariants.{RecoveryFailed}
@@ -12,15 +13,15 @@ use Rattle.recovery.proofs.exhaust_recovery.Goals as goal
 
 pub returns-then-gates_failed : goal.returns-then-gates_failed
 returns-then-gates_failed c =
-    let ch = entries c.args.chain in
-    let i = c.args.id in
-    let told = c.gates_failed.ensures ∙ ap gates_failed c.policy_at-policy.ensures in
-    gated-then ch c.args.p (position ch i) _ (give_up i) (start_over ch i) c.requires.here told c.if-gates_failed.true c.gate_by_policy-v.ensures c.start_over.ensures
+    let a = c.args in
+    let ch = entries a.chain in
+    let gates : gates_failed (policy_at ch a.p) ≡ true = search rules in
+    gated-then ch a.p (position ch a.id) (give_up a.id) (start_over ch a.id) c.requires.here gates c.gate_by_policy-v.ensures c.start_over.ensures
 
 pub returns : goal.returns
 returns c =
-    let ch = entries c.args.chain in
-    let i = c.args.id in
-    let told = c.gates_failed.ensures ∙ ap gates_failed c.policy_at-policy.ensures in
-    let reported = ran-say (ReportRecoveryFailed i) (ran-none c.requires.sane.fit) c.say-u.ensures in
-    ungated-then ch c.args.p (position ch i) _ (give_up i) (start_over ch i) c.requires.here told c.if-gates_failed.false (ran-say (Emit RecoveryFailed) reported c.say.ensures)
+    let a = c.args in
+    let ch = entries a.chain in
+    let spares : gates_failed (policy_at ch a.p) ≡ false = search rules in
+    let reported = ran-say (ReportRecoveryFailed a.id) (ran-none c.requires.sane.fit) c.say-u.ensures in
+    ungated-then ch a.p (position ch a.id) (give_up a.id) (start_over ch a.id) c.requires.here spares (ran-say (Emit RecoveryFailed) reported c.say.ensures)

@@ -1,6 +1,8 @@
 -- `step` meets its contract: the table of numbers is the table of rules, for whomever the event is about, and at
 -- most 2N+1 effects fit into a sink of length 0, so that it holds them all.
-use Rattle.std.proofs.Common.{◌≡◌, ℕ, ◌≤◌, ◌<◌, List, ◌++◌, length, refl, sym, ap, ◌∙◌, arith, rules}
+use Rattle.std.proofs.Common.{◌≡◌, ℕ, ◌≤◌, ◌<◌, false, List, ◌++◌, length, refl, sym, ap, ◌∙◌, arith, rules}
+use Rattle.model.specs.Vocabulary.{named}
+use Rattle.model.specs.declared.ComponentId.{ComponentId}
 use Rattle.model.specs.declared.Effect.{Effect}
 use Rattle.model.specs.declared.State.{State}
 use Rattle.model.specs.declared.Event.{Event}
@@ -19,6 +21,8 @@ use Rattle.machine.specs.View.{core_of, Ran}
 use Rattle.machine.proofs.Laws.{length-statuses}
 use Rattle.machine.proofs.Says.{says-held}
 use Rattle.machine.proofs.Runs.{ran-as}
+use Rattle.rot.specs.Whom.{whom}
+use Rattle.rot.specs.Idle.{idle}
 use Rattle.rot.specs.Stepped.{bare, outcome, Stepped}
 use Rattle.rot.proofs.Bound.{step-bound}
 use Rattle.rot.proofs.Named.{busy-inside, step-inside}
@@ -29,8 +33,13 @@ use Rattle.rot.proofs.step.Goals as goal
 some : (c : Chain) → length c.list.entries ≡ 255 → Sound c.list.len (entries c) → 0 < length (entries c)
 some c full sound = omega (arith, all-kept c full sound.few, sound.some)
 
-first : (c : Chain) → length c.list.entries ≡ 255 → Sound c.list.len (entries c) → position (entries c) (id_at (entries c) 0) < length (entries c)
-first c full sound = omega (arith, some c full sound, own-place c.list.len (entries c) sound 0 (some c full sound))
+-- Whomever an event is about that does something stands in the chain.
+inside : (c : Chain) (s : State) (e : Event) (i : ComponentId) → length c.list.entries ≡ 255 → Sound c.list.len (entries c)
+    → idle (entries c) s e ≡ false → i ≡ whom (id_at (entries c) 0) (named e) → position (entries c) i < length (entries c)
+inside c s e i full sound busy q =
+    let ch = entries c in
+    let first : position ch (id_at ch 0) < length ch = omega (arith, some c full sound, own-place c.list.len ch sound 0 (some c full sound)) in
+    rw q (busy-inside ch s e (id_at ch 0) first busy)
 
 -- What is run on a sink of length 0 holds all that the definition says.
 stepped : (c : Chain) (max : ℕ) (s : State) (rot : Rot) (e : Event) → length c.list.entries ≡ 255 → Sound c.list.len (entries c)
@@ -55,20 +64,19 @@ stepped c max s rot e full sound statuses words k z slots r d =
 pub returns-then-idles : goal.returns-then-idles
 returns-then-idles c =
     let a = c.args in
-    let answered = c.idles.ensures.1 a.chain refl c.requires.charted c.count-n.ensures.0 in
+    let answered = c.idles.ensures.1 a.chain refl c.requires.charted c.count.ensures.0 in
     idle-stepped a.chain a.max_retry a.state a.rot a.event c.requires.fit (sym answered ∙ c.if-idles.true) _ refl
 
 pub apply-requires : goal.apply-requires
 apply-requires c =
     let a = c.args in
-    let ch = entries a.chain in
     let full : length a.chain.list.entries ≡ 255 = search (rules, unmap) in
-    let answered = c.idles.ensures.1 a.chain refl c.requires.charted c.count-n.ensures.0 in
-    let within = busy-inside ch a.state a.event (id_at ch 0) (first a.chain full c.requires.sound) (sym answered ∙ c.if-idles.false) in
+    let answered = c.idles.ensures.1 a.chain refl c.requires.charted c.count.ensures.0 in
+    let within = inside a.chain a.state a.event c.about-id.result full c.requires.sound (sym answered ∙ c.if-idles.false) c.about-id.ensures in
     record {
       sane = record { charted = c.requires.charted; sound = c.requires.sound; fit = c.requires.fit };
-      here = c.position-p.ensures;
-      inside = omega (arith, within, ap (position ch) c.about-id.ensures, c.position-p.ensures);
+      here = c.position.ensures;
+      inside = omega (arith, within, c.position.ensures);
     }
 
 pub returns : goal.returns
@@ -79,9 +87,8 @@ returns c =
     let statuses : length a.rot.statuses ≡ 255 = search (rules, unmap) in
     let words : length a.rot.isolated.words ≡ 4 = search rules in
     let slots : length a.sink.effects ≡ 512 = search (rules, unmap) in
-    let answered = c.idles.ensures.1 a.chain refl c.requires.charted c.count-n.ensures.0 in
-    let busy = busy-inside ch a.state a.event (id_at ch 0) (first a.chain full c.requires.sound) (sym answered ∙ c.if-idles.false) in
-    let within : position ch c.about-id.result < length ch = omega (arith, busy, ap (position ch) c.about-id.ensures) in
+    let answered = c.idles.ensures.1 a.chain refl c.requires.charted c.count.ensures.0 in
+    let within = inside a.chain a.state a.event c.about-id.result full c.requires.sound (sym answered ∙ c.if-idles.false) c.about-id.ensures in
     stepped a.chain a.max_retry a.state a.rot a.event full c.requires.sound statuses words _ refl slots _
     (ran-as
     (step-inside ch a.max_retry (core_of (size a.chain) (bare a.state a.rot)) a.event (id_at ch 0) c.about-id.result c.rule_number-rule.result c.about-id.ensures c.rule_number-rule.ensures.0 within)

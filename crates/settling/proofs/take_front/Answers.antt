@@ -3,4 +3,4 @@ use Rattle.settling.proofs.Views.{stepped-becomes}
 use Rattle.settling.proofs.take_front.Goals as goal
 
 pub returns : goal.returns
-returns c = stepped-becomes c.args.m c.requires c.args.event c.step-stepped.result c.taken-after.result c.step-stepped.ensures c.taken-after.ensures
+returns c = stepped-becomes c.args.m c.requires c.args.event c.step-m.result c.taken-m.result c.step-m.ensures c.taken-m.ensures

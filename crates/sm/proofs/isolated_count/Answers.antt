@@ -2,13 +2,12 @@
 use mathlib.Core.Path.{◌≡◌, ◌∙◌}
 use lib.ListN.{length}
 use borrow.Author.Rules.{rules}
-use Rattle.model.proofs.Arrays.{unmap}
 use Rattle.sm.proofs.Words.{count-says}
 use Rattle.sm.proofs.isolated_count.Goals as goal
 
 pub returns : goal.returns
 returns c =
     let m = c.args.m in
-    let full : length m.work.rot.statuses ≡ 255 = search (rules, unmap) in
+    let full : length m.work.rot.statuses ≡ 255 = search rules in
     let e = c.count.ensures.0 in
     (e, λ v. e ∙ count-says m full v)

@@ -1,23 +1,26 @@
 -- `reply` meets its contract: the waiting effect is answered and the machine settled, or the call is refused.
-use mathlib.Core.Path.{sym, subst}
-use Rattle.settling.specs.declared.Waiting.TheVariants.{Nothing, Handed}
+use Rattle.std.proofs.Common.{◌≡◌, true, false, None, sym, subst}
+use Rattle.std.specs.Option.{is_some}
 use Rattle.settling.specs.Settle.{waiting_is, replied}
 use Rattle.settling.specs.View.{view}
 use Rattle.settling.proofs.Views.{puts, moves-becomes, view-few}
+use Rattle.sm.specs.declared.CallError.TheVariants.{NothingWaits}
 use Rattle.sm.specs.Calls.{Expected}
 use Rattle.sm.specs.Gives.{CallGives}
-use Rattle.sm.proofs.Stepping.{replied-idle, replied-few, reply-waiting, settles, refuses}
+use Rattle.sm.proofs.Stepping.{replied-idle, replied-few, reply-taken, reply-refused, settles, refuses}
 use Rattle.sm.proofs.reply.Goals as goal
 
-pub returns-in-Nothing : goal.returns-in-Nothing
-returns-in-Nothing c =
+pub returns-then-is_none : goal.returns-then-is_none
+returns-then-is_none c =
     let m = c.args.machine in
-    subst (λ (x : Expected). CallGives m x c.report.result) (sym (reply-waiting m c.args.reply Nothing c.in-Nothing.is)) (refuses m 7 c.report.result c.requires c.report.ensures)
+    let none : is_some m.dispatch.waiting ≡ false = cc in
+    subst (λ (x : Expected). CallGives m x c.report.result) (sym (reply-refused m c.args.reply none)) (refuses m NothingWaits c.report.result c.requires c.report.ensures)
 
-pub returns-in-Handed : goal.returns-in-Handed
-returns-in-Handed c =
+pub returns : goal.returns
+returns c =
     let m = c.args.machine in
     let a = c.args.reply in
-    let v = c.replied-after in
-    subst (λ (x : Expected). CallGives m x c.report-in-Handed.result) (sym (reply-waiting m a (Handed c.in-Handed.field-0) c.in-Handed.is))
-    (settles m (puts v.result m) c.settle.result (replied a (waiting_is Nothing (view m))) c.report-in-Handed.result (moves-becomes m c.requires.whole _ v.result v.ensures) (replied-idle (view m) a) (replied-few (view m) a (view-few m c.requires.whole)) c.settle.ensures c.report-in-Handed.ensures)
+    let v = c.replied-machine in
+    let some : is_some m.dispatch.waiting ≡ true = cc in
+    subst (λ (x : Expected). CallGives m x c.report-2.result) (sym (reply-taken m a some))
+    (settles m (puts v.result m) c.settle.result (replied a (waiting_is None (view m))) c.report-2.result (moves-becomes m c.requires.whole _ v.result v.ensures) (replied-idle (view m) a) (replied-few (view m) a (view-few m c.requires.whole)) c.settle.ensures c.report-2.ensures)

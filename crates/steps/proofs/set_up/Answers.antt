@@ -1,5 +1,5 @@
 -- `set_up` gives a valid machine: the chain is that of a valid one, what is kept fits it, and nothing waits.
-use Rattle.std.proofs.Common.{arith, ◌≡◌, ℕ, false, refl, sym, subst}
+use Rattle.std.proofs.Common.{arith, ◌≡◌, ℕ, false, refl, sym, subst, None}
 use Rattle.model.specs.declared.State.{State}
 use Rattle.store.specs.declared.Sink.{Sink}
 use Rattle.store.specs.Sink.{empty_sink, held}
@@ -10,12 +10,11 @@ use Rattle.machine.specs.View.{Fit}
 use Rattle.chain.specs.Tables.{size}
 use Rattle.entry.proofs.Compose.{fit_at}
 use Rattle.settling.specs.declared.Machine.{Machine}
-use Rattle.settling.specs.declared.Waiting.TheVariants.{Nothing}
 use Rattle.settling.specs.View.{view, Valid}
 use Rattle.steps.proofs.set_up.Goals as goal
 
 abbrev laid : Machine → ℕ → State → Rot → Sink → Pending → Machine
-laid m max st r b q = record { chain = m.chain; max_retry = max; work = record { state = st; rot = r; sink = b }; dispatch = record { next = 0; waiting = Nothing; pending = q; failed = false } }
+laid m max st r b q = record { chain = m.chain; max_retry = max; work = record { state = st; rot = r; sink = b }; dispatch = record { next = 0; waiting = None; pending = q; failed = false } }
 
 empty-valid : (m : Machine) (max : ℕ) (st : State) (r : Rot) → Valid m → Fit (size m.chain) r → Valid (laid m max st r empty_sink no_events)
 unfolding view held events

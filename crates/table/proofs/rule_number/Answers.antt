@@ -19,5 +19,5 @@ stands s e {i} {j} row column =
 pub returns : goal.returns
 unfolding table
 returns c =
-    let found = stands c.args.state c.args.event c.state_no-i.ensures c.event_no-j.ensures in
+    let found = stands c.args.state c.args.event c.state_no.ensures c.event_no.ensures in
     (rw found, rw found at (rule-below c.args.state c.args.event))

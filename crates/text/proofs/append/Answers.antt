@@ -1,48 +1,30 @@
--- `text::append` meets its contract: what does not fit changes nothing, and what fits is copied byte by byte.
-use Rattle.std.proofs.Common.{rules, arith, ◌≡◌, ap, sym, ◌∙◌, List, ◌++◌, ℕ, ◌+◌, add-one, length, take, drop, get_or}
-use Rattle.std.proofs.Math.ListN.{set, length-set}
-use Rattle.std.proofs.Math.Seq.{paste, paste-suc}
+-- `text::append` meets its contract: what does not fit changes nothing, and what fits is copied.
+use Rattle.std.proofs.Common.{arith, ◌≡◌, refl, ap, ◌∙◌, ◌<◌, length, take, Some}
+use Rattle.std.proofs.Math.Seq.{take_all}
+use Rattle.std.proofs.lemmas.Slice.{put_mid-paste}
 use Rattle.text.specs.Lines.{text_of}
-use Rattle.text.specs.declared.Room.TheVariants.{At}
 use Rattle.text.proofs.Laws.{fitted, unfitted, first-bytes}
 use Rattle.text.proofs.append.Goals as goal
 
-pub returns-then-out-at : goal.returns-then-out-at
-returns-then-out-at c =
+pub returns-in_err-end : goal.returns-in_err-end
+returns-in_err-end c =
     let a = c.args in
-    unfitted a.out.now a.at (text_of a.l) (omega arith)
+    let small : length a.out.now < 18446744073709551616 = omega arith in
+    rw c.from_residual.ensures (unfitted a.out.now a.at (text_of a.l) (omega (arith, c.in_err-end.ensures)))
 
-pub returns-then-room-n : goal.returns-then-room-n
-returns-then-room-n c =
+pub returns-then-out-end : goal.returns-then-out-end
+returns-then-out-end c =
     let a = c.args in
-    let sized : c.size-n.result ≡ length (text_of a.l) = c.size-n.ensures in
-    unfitted a.out.now a.at (text_of a.l) (omega arith)
-
-pub loop-i-preserved : goal.loop-i-preserved
-loop-i-preserved c =
-    let a = c.args in
-    let i = c.loop-i.i in (
-      ap (λ (l : List ℕ). set l (a.at + i) (get_or a.l.bytes i 0)) c.loop-i.invariant.0
-          ∙ paste-suc a.out.now a.at a.l.bytes i 0 (omega arith) (omega arith)
-          ∙ ap (paste a.out.now a.at a.l.bytes) (sym (add-one i)),
-      simp length-set (search rules),
-      omega arith,
-      omega arith,
-      search rules,
-    )
+    unfitted a.out.now a.at (text_of a.l) (omega (arith, c.in_ok-end.ensures))
 
 pub returns : goal.returns
 returns c =
     let a = c.args in
-    let n = c.size-n.result in
-    let sized : n ≡ length (text_of a.l) = c.size-n.ensures in
-    let done : c.loop-i.i ≡ n = omega arith in
-    let put = fitted a.out.now a.at (text_of a.l) (omega arith) in
-    let same : take n a.l.bytes ≡ text_of a.l = first-bytes a.l n sized in (
-      ap (λ (k : ℕ). At (a.at + k)) sized ∙ put.0,
-      c.loop-i.invariant.0
-          ∙ ap (paste a.out.now a.at a.l.bytes) done
-          ∙ ap (λ (s : List ℕ). take a.at a.out.now ++ s ++ drop (a.at + n) a.out.now) same
-          ∙ ap (λ (k : ℕ). take a.at a.out.now ++ text_of a.l ++ drop (a.at + k) a.out.now) sized
-          ∙ put.1,
+    let s = text_of a.l in
+    let sized : c.size-n.result ≡ length s = c.size-n.ensures in
+    let whole : take (length s) s ≡ s = take_all (length s) s (omega arith) in
+    let copied : c.copy_from_slice.new.self ≡ s = c.copy_from_slice.ensures.after ∙ first-bytes a.l _ sized in
+    let put = fitted a.out.now a.at s (omega (arith, c.in_ok-end.ensures)) in (
+      ap Some (omega (arith, c.in_ok-end.ensures)) ∙ put.0,
+      put_mid-paste a.at _ a.out.now _ s (length s) copied (omega (arith, c.in_ok-end.ensures)) refl ∙ rw whole put.1,
     )

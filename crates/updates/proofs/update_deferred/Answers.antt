@@ -1,7 +1,7 @@
 -- `update_deferred` meets its contract: one effect.
 use Rattle.model.specs.declared.Effect.TheVariants.{ReportUpdateDeferred}
-use Rattle.machine.proofs.Runs.{ran-none, ran-say}
+use Rattle.machine.proofs.Runs.{ran-none, ran-emit}
 use Rattle.updates.proofs.update_deferred.Goals as goal
 
 pub returns : goal.returns
-returns c = λ n fit. ran-say ReportUpdateDeferred (ran-none fit) c.say.ensures
+returns c = λ n fit. ran-emit ReportUpdateDeferred (ran-none fit) c.emit.ensures

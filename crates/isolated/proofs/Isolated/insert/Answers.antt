@@ -6,14 +6,13 @@ use Rattle.isolated.proofs.Words.{set-position}
 use Rattle.isolated.proofs.Laws.{length-flags}
 use Rattle.isolated.proofs.Isolated.insert.Goals as goal
 
-pub returns-then-p-ge256 : goal.returns-then-p-ge256
-returns-then-p-ge256 c =
-    let s = c.args.self in
-    let four : length c.args.self.words ≡ 4 = search rules in
-    sym (set_out (flags s) c.args.p true (omega (arith, length-flags s four)))
-
-pub returns : goal.returns
+pub returns-then-p-lt256 : goal.returns-then-p-lt256
 unfolding flags
-returns c =
+returns-then-p-lt256 c =
     let four : length c.args.self.words ≡ 4 = search rules in
     set-position c.args.self.words c.args.p (omega arith)
+
+pub returns-else-p-lt256 : goal.returns-else-p-lt256
+returns-else-p-lt256 c =
+    let four : length c.args.self.words ≡ 4 = search rules in
+    sym (set_out (flags c.args.self) c.args.p true (omega (arith, length-flags c.args.self four)))

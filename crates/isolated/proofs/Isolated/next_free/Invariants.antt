@@ -4,7 +4,7 @@ use Rattle.isolated.specs.Flags.{flags_of}
 use Rattle.isolated.proofs.Isolated.next_free.Given as goal
 
 abbrev pub invariant-loop-p : goal.invariant-loop-p
-invariant-loop-p l = (l.from ≤ l.p) × ((i : ℕ) → l.from ≤ i → i < l.p → get_or (flags_of 64 l.words) i false ≡ true)
+invariant-loop-p l = (l.from ≤ l.p) × ((i : ℕ) → l.from ≤ i → i < l.p → get_or (flags_of 64 l.self.words) i false ≡ true)
 
 abbrev pub decreases-loop-p : goal.decreases-loop-p
 decreases-loop-p l = l.n - l.p

@@ -1,11 +1,12 @@
 -- `Pending::pop_front` meets its contract.
-use Rattle.std.proofs.Common.{◌≡◌, rules, arith, length}
-use Rattle.model.proofs.Arrays.{unmap}
-use Rattle.pending.proofs.Laws.{pop-law}
+use Rattle.std.proofs.Common.{rules, arith, ◌≡◌, length}
+use Rattle.pending.specs.Queue.{events}
+use Rattle.pending.proofs.Laws.{popped}
 use Rattle.pending.proofs.Pending.pop_front.Goals as goal
 
 pub returns : goal.returns
+unfolding events
 returns c =
-    let n = c.count-n in
-    let full : length c.args.self.entries ≡ 8 = search (rules, unmap) in
-    pop-law c.args.self full n.result n.ensures.0 n.ensures.1 (omega arith) c.moved_up.result c.moved_up.ensures
+    let q = c.args.self in
+    let full : length q.entries ≡ 8 = search rules in
+    rw c.rotate_left.ensures.after (popped q.entries q.len c.count-n.result full c.count-n.ensures.0 (omega arith))

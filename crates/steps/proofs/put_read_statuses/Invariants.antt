@@ -1,9 +1,0 @@
--- `put_read_statuses` is safe and ends: it goes over at most 255 components.
-use Rattle.std.proofs.Common.{◌-◌, ◌≤◌}
-use Rattle.steps.proofs.put_read_statuses.Given as goal
-
-abbrev pub invariant-loop-p : goal.invariant-loop-p
-invariant-loop-p l = l.p ≤ l.n
-
-abbrev pub decreases-loop-p : goal.decreases-loop-p
-decreases-loop-p l = l.n - l.p
