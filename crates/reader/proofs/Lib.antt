@@ -5,3 +5,4 @@ pub mod Kept
 pub mod Unbroken
 pub mod Inverse
 pub mod Examples
+pub mod Good

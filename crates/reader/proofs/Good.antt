@@ -1,0 +1,44 @@
+-- The rows before the first bad line: all of them where no line is bad, so that max_retry and the components are those of the
+-- whole sheet.
+use Rattle.std.specs.Prelude.{Option}
+use mathlib.Core.Path.{◌≡◌, refl, ap}
+use mathlib.Core.Bool.{Bool, true, false}
+use mathlib.Core.List.{List, [], ◌∷◌}
+use Prim.Native.Nat.{ℕ, suc, ◌<◌}
+use native.Mathlib.Omega.{arith}
+use Rattle.model.specs.Vocabulary.{pick}
+use Rattle.components.specs.Chain.{no_entries}
+use Rattle.lines.specs.declared.Row.{Row}
+use Rattle.reader.specs.declared.Part.{Part}
+use Rattle.reader.specs.declared.Part.TheVariants.{Opening}
+use Rattle.reader.specs.declared.Sheet.{Sheet}
+use Rattle.reader.specs.Read.{rows_in, part_after, is_wrong, bad_from, bad_line, retry_in, cards_in, pushed_all, Whole}
+
+unfoldable pub good_from : Part → List (Option Row) → List (Option Row)
+good_from part [] = []
+good_from part (r ∷ rs) = pick (is_wrong (part_after part r)) [] (r ∷ good_from (part_after part r) rs)
+
+unfoldable pub good_in : List ℕ → List (Option Row)
+good_in s = good_from Opening (rows_in s)
+
+good-from : (part : Part) (n : ℕ) (rs : List (Option Row)) → 0 < n → bad_from part n rs ≡ 0 → good_from part rs ≡ rs
+unfolding bad_from good_from
+good-from part n [] h e = refl
+good-from part n (r ∷ rs) h e = by (is_wrong (part_after part r)) (λ f. good-from (part_after part r) (suc n) rs (omega arith) f) e
+  where
+    by : (b : Bool) → (bad_from (part_after part r) (suc n) rs ≡ 0 → good_from (part_after part r) rs ≡ rs)
+        → pick b n (bad_from (part_after part r) (suc n) rs) ≡ 0
+        → pick b [] (r ∷ good_from (part_after part r) rs) ≡ r ∷ rs
+    by true k f = absurd (omega (arith, h, f))
+    by false k f = ap (λ (x : List (Option Row)). r ∷ x) (k f)
+
+pub good-all : (s : List ℕ) → bad_line s ≡ 0 → good_in s ≡ rows_in s
+unfolding bad_line good_in
+good-all s e = good-from Opening 1 (rows_in s) (omega arith) e
+
+module _ (s : List ℕ) (r : Sheet) (w : Whole s r) where
+  pub retry-whole : r.max_retry ≡ retry_in s
+  retry-whole = w.retry
+
+  pub list-whole : r.list ≡ pushed_all no_entries (cards_in s)
+  list-whole = w.list
