@@ -1,4 +1,4 @@
-// Effects as lines of a transcript.
+// Effects as lines of a transcript. Names are written out, since no `Debug` or `Display` promises its text in fixed memory.
 #![tactic(auto)]
 
 ghost use Rattle.std.specs.Prelude.{◌≡◌, ◌∷◌, ◌≤◌, length};

@@ -36,7 +36,8 @@ use std::io;
 use std::io::{Read, Stdout};
 use store::{Sink, Status};
 
-// ---- from numbers
+// ---- from numbers: the rows of the comparisons with the Rust are numbers, and the types are those of other crates, so that no
+// `From` of a number can stand here.
 
 // The number at place i, and 0 past the end.
 fn number_at(ns: &[u64], i: usize) -> u64 {

@@ -1,11 +1,11 @@
 -- What a line holds of a text, pushed in parts; a text that fits into a buffer, and one that does not.
 use Rattle.std.specs.Prelude.{None, Some}
 use mathlib.Core.Path.{◌≡◌, refl, sym, ap, ◌∙◌}
-use mathlib.Core.List.{List, [], ◌∷◌, ◌++◌, append_assoc, append-nil}
-use Prim.Native.Nat.{ℕ, zero, suc, ◌+◌, ◌≤◌, ◌<◌}
+use mathlib.Core.List.{List, [], ◌∷◌, ◌++◌, append_assoc}
+use Prim.Native.Nat.{ℕ, zero, suc, ◌+◌, ◌-◌, ◌≤◌, ◌<◌, min}
 use native.Mathlib.Omega.{arith}
 use lib.ListN.{length, take, drop}
-use lib.Seq.{take_all, take_at}
+use lib.Seq.{take_all, take_at, take-append-add}
 use Rattle.std.proofs.lemmas.List.{length-take, take_min}
 use borrow.Author.Tests.{le-leb, lt-leb}
 use Rattle.text.specs.declared.Line.{Line}
@@ -25,6 +25,16 @@ pub held-short : (s : List ℕ) → length s ≤ 64 → held s ≡ s
 unfolding held
 held-short s h = take_all 64 s h
 
+-- of a second text as much is held as there is room for
+pub held-part : (s t : List ℕ) (n : ℕ) → length s ≤ 64 → n ≡ min (length t) (64 - length s) → held (s ++ t) ≡ s ++ take n t
+unfolding held
+held-part s t n h e =
+    let room : 64 ≡ length s + (64 - length s) = omega arith in
+    let least : n ≡ min (64 - length s) (length t) = omega arith in
+    ap (λ (k : ℕ). take k (s ++ t)) room
+    ∙ take-append-add s t (64 - length s)
+    ∙ ap (λ (r : List ℕ). s ++ r) (sym (ap (λ (k : ℕ). take k t) least ∙ take_min (64 - length s) t))
+
 -- a full text has room for nothing more
 pub held-full : (s t : List ℕ) → length s ≡ 64 → held (s ++ t) ≡ s
 unfolding held
@@ -33,12 +43,6 @@ held-full s t e = take_at s t 64 e
 -- the text is the first bytes, as many as it has
 pub first-bytes : (l : Line) (n : ℕ) → n ≡ length (text_of l) → take n l.bytes ≡ text_of l
 first-bytes l n e = ap (λ (k : ℕ). take k l.bytes) (e ∙ length-take l.len l.bytes) ∙ take_min l.len l.bytes
-
--- no line has over 64 bytes
-pub nothing : (l : Line) → length l.bytes ≡ 64 → Pushed l [] l
-nothing l e =
-    let short : length (text_of l) ≤ 64 = omega (arith, length-take l.len l.bytes) in
-    record { text = sym (ap held (append-nil (text_of l)) ∙ held-short (text_of l) short) }
 
 -- one text after another
 pub chained : {l m r : Line} {s t : List ℕ} → Pushed l s m → Pushed m t r → Pushed l (s ++ t) r

@@ -46,16 +46,19 @@ pub fn push(mut l: Line, b: u8) -> Line
     l
 }
 
+// Of more bytes than there is room for the first ones.
 pub fn push_bytes(mut l: Line, s: &[u8]) -> Line
     ensures { Pushed l s.now result }
 {
-    for &b in s {
-        l = push(l, b);
-    }
+    let at = size(l);
+    let n = s.len().min(64 - at);
+    l.bytes[at..at + n].copy_from_slice(&s[..n]);
+    l.len = at + n;
     l
 }
 
-// n in decimal, with no leading zero.
+// n in decimal, with no leading zero. By hand: a line is built in fixed memory and its whole text is promised, while `write!` to
+// a line promises its text only where it answers Ok, and nothing promises that it does.
 pub fn push_decimal(l: Line, n: u64) -> Line
     ensures { Pushed l (decimal n) result }
 {

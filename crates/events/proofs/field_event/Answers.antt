@@ -1,4 +1,4 @@
--- `field_event` meets its contract.
+-- `field_event` meets its contract: bytes that are no text are no name, of an event with a number either.
 use Rattle.std.proofs.Common.{◌≡◌, refl, ◌∙◌, None}
 use Rattle.model.specs.Vocabulary.{id_of}
 use Rattle.fields.specs.Fields.{number_of}

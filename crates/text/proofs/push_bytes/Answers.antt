@@ -1,18 +1,23 @@
--- `text::push_bytes` meets its contract: one more byte is pushed behind the first i, and at the end these are all.
-use Rattle.std.proofs.Common.{rules, arith, length, ◌<◌, add-one}
-use Rattle.std.proofs.Math.Seq.{take-suc, take_all}
-use Rattle.text.proofs.Laws.{nothing, chained}
+-- `text::push_bytes` meets its contract: behind the text lie as many bytes as there is room for.
+use Rattle.std.proofs.Common.{rules, arith, ◌≡◌, ◌≤◌, length, sym, ap, ◌∙◌, ℕ, List, ◌++◌, length-take}
+use Rattle.std.proofs.lemmas.Slice.{take-put_mid}
+use Rattle.text.specs.Lines.{text_of}
+use Rattle.text.proofs.Laws.{first-bytes, held-part}
 use Rattle.text.proofs.push_bytes.Goals as goal
 
-pub loop-b-init : goal.loop-b-init
-loop-b-init c = nothing _ (search rules)
-
-pub loop-b-preserved : goal.loop-b-preserved
-loop-b-preserved c =
-    let i = c.loop-b.b-index in
-    let s = c.args.s.now in
-    let inside : i < length s = omega arith in
-    rw (add-one, take-suc s i 0) (chained c.loop-b.invariant c.push-l.ensures)
-
 pub returns : goal.returns
-returns c = rw (take_all c.loop-b.b-index c.args.s.now (omega arith)) at c.loop-b.invariant
+returns c =
+    let l = c.args.l in
+    let s = c.args.s.now in
+    let at = c.size-at.result in
+    let n = c.min-n.result in
+    let full : length l.bytes ≡ 64 = search rules in
+    let sized : at ≡ length (text_of l) = c.size-at.ensures in
+    let short : length (text_of l) ≤ 64 = omega (arith, length-take l.len l.bytes) in
+    let copied = c.copy_from_slice.ensures in
+    record {
+      text = take-put_mid at _ l.bytes _ _ (omega (arith, copied.len)) (omega arith)
+          ∙ ap (λ (t : List ℕ). t ++ c.copy_from_slice.new.self) (first-bytes l at sized)
+          ∙ ap (λ (t : List ℕ). text_of l ++ t) copied.after
+          ∙ sym (held-part (text_of l) s n short (omega arith));
+    }
