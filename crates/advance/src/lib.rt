@@ -3,9 +3,8 @@
 
 ghost use Rattle.std.specs.Prelude.{◌≤◌, ◌<◌};
 ghost use Rattle.chain.specs.Tables.{entries, size};
-ghost use Rattle.machine.specs.View.{Fit};
-ghost use Rattle.machine.specs.Acts.{Does};
-ghost use Rattle.advance.specs.Acts.{advancing, quieting, quieting_all, clearing};
+ghost use Rattle.machine.specs.Acts.{Does, DoesAll};
+ghost use Rattle.advance.specs.Acts.{advancing, stopping, quieting_all, clearing};
 
 use chain::Chain;
 use machine::Work;
@@ -15,7 +14,7 @@ use store::Status;
 // The cursor goes to the first component from p on that is not isolated. Its firmware is read and verified next; where
 // there is none the chain has ended.
 pub fn advance_to_next_ungated(chain: Chain, mut w: Work, p: usize) -> Work
-    requires { (p ≤ size chain) × (Fit (size chain) w.rot) }
+    requires { p ≤ size chain }
     ensures { Does (size chain) w (advancing (entries chain) p) result }
 {
     let n = chain.count();
@@ -29,38 +28,37 @@ pub fn advance_to_next_ungated(chain: Chain, mut w: Work, p: usize) -> Work
     w
 }
 
-// A component that runs is held in reset, and both its flags go off. The others are in reset already.
+// A component that runs is held in reset, and both its flags go off.
 fn quiet_one(chain: Chain, mut w: Work, p: usize) -> Work
-    requires { (p < size chain) × (Fit (size chain) w.rot) }
-    ensures { Does (size chain) w (quieting (entries chain) p) result }
+    requires { p < size chain }
+    ensures { Does (size chain) w (stopping (entries chain) p) result }
 {
-    if w.rot.statuses[p].released {
-        w.rot.statuses[p] = Status {
-            awaiting_boot: false,
-            released: false,
-            ..w.rot.statuses[p]
-        };
-        w.sink.emit(Effect::AssertReset(chain.id_at(p)));
-    }
+    w.rot.statuses[p] = Status {
+        awaiting_boot: false,
+        released: false,
+        ..w.rot.statuses[p]
+    };
+    w.sink.emit(Effect::AssertReset(chain.id_at(p)));
     w
 }
 
-// Nothing runs any more: in chain order every released component is held in reset.
+// Nothing runs any more: in chain order every released component is held in reset. The others are in reset already, and are
+// passed over here: a call hands the whole machine over.
 pub fn quiesce_all(chain: Chain, mut w: Work) -> Work
-    requires { Fit (size chain) w.rot }
     ensures { Does (size chain) w (quieting_all (entries chain)) result }
 {
     for p in 0..chain.count() {
-        w = quiet_one(chain, w, p);
+        if w.rot.statuses[p].released {
+            w = quiet_one(chain, w, p);
+        }
     }
     w
 }
 
 // Entering Ready: every retry count starts again. The counts past the chain are cleared with the others, since nobody
 // reads them.
-pub fn clear_all_retries(mut w: Work, n: usize) -> Work
-    requires { Fit n w.rot }
-    ensures { Does n w clearing result }
+pub fn clear_all_retries(mut w: Work) -> Work
+    ensures { DoesAll w clearing result }
 {
     store::clear_retries(&mut w.rot.statuses);
     w

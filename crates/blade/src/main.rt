@@ -2,9 +2,6 @@
 // Every effect is printed as it is handed out, and the state when its event is done.
 #![tactic(auto)]
 
-ghost use Rattle.std.specs.Prelude.{IfOk};
-ghost use Rattle.settling.specs.View.{Valid};
-
 use components::ComponentList;
 use model::{Component, ComponentAttrs, ComponentId, Effect, Event, PowerOnResult};
 use settling::{Machine, Reply};
@@ -17,7 +14,7 @@ fn put(out: Stdout, line: Line) -> io::Result<()> {
     out.write_all(text::bytes(&line))
 }
 
-// A line of a name and numbers.
+// A line of a name and numbers, put together here: it is of no one type that could have a `Display`.
 fn put_numbers(out: Stdout, name: &[u8], numbers: &[u64]) -> io::Result<()> {
     let mut line = text::push_bytes(text::empty(), name);
     for &n in numbers {
@@ -52,10 +49,7 @@ fn answer_to(effect: Effect) -> Reply {
 }
 
 // Answers one effect after the other until none waits. A thousand are more than any event here hands out.
-fn finish(out: Stdout, m: Machine) -> io::Result<Machine>
-    requires { Valid m }
-    ensures { IfOk result (λ v. Valid v) }
-{
+fn finish(out: Stdout, m: Machine) -> io::Result<Machine> {
     let mut v = m;
     for _ in 0..1000 {
         let Some(effect) = sm::waiting(v) else {
@@ -68,10 +62,7 @@ fn finish(out: Stdout, m: Machine) -> io::Result<Machine>
 }
 
 // An event from its beginning to its end.
-fn drive(out: Stdout, m: Machine, event: Event) -> io::Result<Machine>
-    requires { Valid m }
-    ensures { IfOk result (λ v. Valid v) }
-{
+fn drive(out: Stdout, m: Machine, event: Event) -> io::Result<Machine> {
     let begun = sm::begin(m, event).machine;
     let v = finish(out, begun)?;
     put_state(out, v)?;
@@ -79,10 +70,7 @@ fn drive(out: Stdout, m: Machine, event: Event) -> io::Result<Machine>
 }
 
 // An event is begun and its first effect left waiting: another begin is refused, and so is a reply once all is done.
-fn refuse(out: Stdout, m: Machine) -> io::Result<Machine>
-    requires { Valid m }
-    ensures { IfOk result (λ v. Valid v) }
-{
+fn refuse(out: Stdout, m: Machine) -> io::Result<Machine> {
     let begun = sm::begin(m, Event::AttestationChallenge).machine;
     let early = sm::begin(begun, Event::UpdateRequest);
     put_refusal(out, b"begin", early.answer)?;
@@ -110,9 +98,7 @@ fn cards() -> ComponentList {
 }
 
 // Boot, a recovery, an isolation, an update.
-fn shift(out: Stdout, m: Machine) -> io::Result<()>
-    requires { Valid m }
-{
+fn shift(out: Stdout, m: Machine) -> io::Result<()> {
     let one = ComponentId::new(1);
     let three = ComponentId::new(3);
     let m = drive(out, m, Event::PowerGood(PowerOnResult::Provisioned))?;

@@ -1,16 +1,17 @@
 -- What the code adds to an order: one holder's dependents, position by position.
-use mathlib.Core.Path.{◌≡◌, refl, sym, ◌∙◌, ap}
+use mathlib.Core.Path.{◌≡◌, refl, ◌∙◌, ap}
 use mathlib.Core.Bool.{Bool, true, false}
 use mathlib.Core.List.{List, [], ◌∷◌, ◌++◌, append_assoc, append-nil, Memᴰ}
 use Prim.Native.Nat.{ℕ, zero, suc, ◌+◌, ◌≤◌, ◌<◌}
 use native.Mathlib.Omega.{arith}
 use native.Mathlib.Numerals.{add-one}
 use lib.Dec.{eqb}
-use lib.ListN.{length, take, get_or, set, length-append, length-take}
-use lib.Seq.{take-suc-set}
+use lib.ListN.{length, get_or, length-append}
 use borrow.Author.Tests.{eq-eqb, ne_eqb, eqb-true, eqb-false}
 use Rattle.model.specs.declared.Component.{Component}
 use Rattle.model.specs.Vocabulary.{pick}
+use Rattle.bounded.specs.Items.{items_of, appended}
+use Rattle.bounded.proofs.Laws.{items-length, with-room, one-more}
 use Rattle.chain.specs.Links.{parent}
 use Rattle.cascade.specs.declared.Order.{Order}
 use Rattle.cascade.specs.Cascade.{below, children_in}
@@ -19,11 +20,12 @@ use Rattle.cascade.specs.Dependents.{dependents, Lists}
 use Rattle.cascade.proofs.Below.{by-test}
 
 -- One position more, where there is room.
-stored : (o : Order) → length o.at ≡ 255 → o.count < 255 → (p : ℕ) → Lists (listed o ++ (p ∷ [])) (record { at = set o.at o.count p; count = o.count + 1 })
+stored : (o : Order) → length o.places.items ≡ 255 → o.places.len < 255 → (p : ℕ) → Lists (listed o ++ (p ∷ [])) (record { places = appended o.places p })
 stored o full b p =
-    let e : take (o.count + 1) (set o.at o.count p) ≡ listed o ++ (p ∷ []) = rw (add-one o.count) (take-suc-set o.at o.count p (omega arith)) in
-    let n : length (listed o ++ (p ∷ [])) ≡ o.count + 1 = omega (arith, length-append (listed o) (p ∷ []), length-take o.count o.at) in
-    record { list = e; count = sym n ∙ ap length (sym e) }
+    let e : items_of (appended o.places p) ≡ listed o ++ (p ∷ []) = one-more o.places p full b in
+    let n : (appended o.places p).len ≡ o.places.len + 1 = rw (with-room o.places p b) in
+    let k : length (listed o) ≡ o.places.len = omega (arith, items-length o.places full) in
+    record { list = e; count = omega (arith, n, k, ap length e, length-append (listed o) (p ∷ [])) }
 
 -- ---- one holder's dependents, position by position
 module _ (t : List ℕ) (h : ℕ) where
@@ -58,7 +60,7 @@ module _ (t : List ℕ) (h : ℕ) where
     one_more e = rw (add-one p) (dependents-append (below p) (p ∷ []) ∙ rw (eq-eqb _ _ e))
 
     -- so that there is room for one more where there is for all.
-    pub room : get_or t p 0 ≡ h → (n : ℕ) → p < n → length (l ++ dependents t h (below n)) ≤ 255 → (m : Order) → Lists (l ++ dependents t h (below p)) m → m.count < 255
+    pub room : get_or t p 0 ≡ h → (n : ℕ) → p < n → length (l ++ dependents t h (below n)) ≤ 255 → (m : Order) → Lists (l ++ dependents t h (below p)) m → m.places.len < 255
     room e n b r m a =
         omega (
           arith,
@@ -72,8 +74,8 @@ module _ (t : List ℕ) (h : ℕ) where
         )
 
     -- Position p depends on the holder, and goes behind the others,
-    pub joins : get_or t p 0 ≡ h → (m : Order) → length m.at ≡ 255 → m.count < 255 → Lists (l ++ dependents t h (below p)) m
-        → Lists (l ++ dependents t h (below (p + 1))) (record { at = set m.at m.count p; count = m.count + 1 })
+    pub joins : get_or t p 0 ≡ h → (m : Order) → length m.places.items ≡ 255 → m.places.len < 255 → Lists (l ++ dependents t h (below p)) m
+        → Lists (l ++ dependents t h (below (p + 1))) (record { places = appended m.places p })
     joins e m full b a =
         let s = stored m full b p in
         record { list = s.list ∙ rw (a.list, one_more e, append_assoc); count = s.count }

@@ -12,4 +12,4 @@ dependents t h (p ∷ ps) = pick (eqb (get_or t p 0) h) (p ∷ dependents t h ps
 -- The order lists l, and counts what it lists.
 pub record Lists (l : List ℕ) (r : Order) : Type 0 where
   pub list : listed r ≡ l
-  pub count : r.count ≡ length (listed r)
+  pub count : r.places.len ≡ length (listed r)

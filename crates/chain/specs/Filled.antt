@@ -1,11 +1,8 @@
--- A table that is filled by a rule, and the chain of a list.
+-- A table that is filled by a rule.
 use Rattle.std.specs.Prelude.{ℕ, ◌<◌, ◌≡◌, List, get_or}
 use Rattle.model.specs.declared.Component.{Component}
 use Rattle.model.specs.Vocabulary.{id_of}
 use Rattle.components.specs.Chain.{position}
-use Rattle.components.specs.declared.ComponentList.{ComponentList}
-use Rattle.chain.specs.declared.Chain.{Chain}
-use Rattle.chain.specs.Tables.{Charted}
 
 -- The first n places hold what the rule gives.
 abbrev pub Filled : (ℕ → ℕ) → ℕ → List ℕ → Type 0
@@ -14,8 +11,3 @@ Filled f n table = (i : ℕ) → i < n → get_or table i 0 ≡ f i
 -- A table by id: where each id has its first entry.
 abbrev pub ById : List Component → List ℕ → Type 0
 ById ch table = Filled (λ (i : ℕ). position ch (id_of i)) 256 table
-
--- The list is kept, and the tables are its own.
-pub record ChartOf (l : ComponentList) (c : Chain) : Type 0 where
-  pub same : c.list ≡ l
-  pub charted : Charted c

@@ -1,15 +1,19 @@
-// A chain: an accepted list with the two tables that are worked out of it once, so that no rule searches it again.
+// A chain: a list of components with the two tables that are worked out of it once, so that no rule searches it again; and a
+// member of an accepted one, which the rules are given.
 #![tactic(auto)]
 
-ghost use Rattle.std.specs.Prelude.{◌≡◌, ◌≤◌, ◌<◌, length};
+mod member;
+
+ghost use Rattle.std.specs.Prelude.{ℕ, ◌≡◌, ◌≤◌, ◌<◌, length};
 ghost use Rattle.components.specs.Chain.{entries_of, position, id_at};
 ghost use Rattle.chain.specs.Links.{parent, kind_at, policy_at};
-ghost use Rattle.chain.specs.Tables.{entries, Charted};
-ghost use Rattle.chain.specs.Filled.{Filled, ById, ChartOf};
+ghost use Rattle.chain.specs.Filled.{Filled, ById};
 
 use components::ComponentList;
+pub use member::Member;
 use model::{ComponentId, ComponentKind, FailurePolicy};
 
+// The tables are always those of the list. They are as long as a byte counts, in fixed memory: no call uses the heap.
 #[derive(Clone, Copy)]
 pub struct Chain {
     pub list: ComponentList,
@@ -17,6 +21,8 @@ pub struct Chain {
     pub positions: [u8; 256],
     // By position: the position of what the component depends on, or the number of components.
     pub parents: [u8; 255],
+    pub ghost by_id: { ById (entries_of list) positions },
+    pub ghost by_place: { Filled (parent (entries_of list)) (length (entries_of list)) parents },
 }
 
 // From the last component to the first, so that of equal ids the first has the place. An id that no component has keeps the
@@ -49,9 +55,11 @@ fn parents_of(list: ComponentList, positions: [u8; 256]) -> [u8; 255]
 }
 
 impl Chain {
+    ghost use Rattle.chain.specs.Tables.{entries};
+
     // Both tables are worked out for any list whatever, also one that is refused.
     pub fn of(list: ComponentList) -> Self
-        ensures { ChartOf list result }
+        ensures { result.list ≡ list }
     {
         let positions = positions_of(list);
         let parents = parents_of(list, positions);
@@ -71,7 +79,6 @@ impl Chain {
 
     // The position of the component `id`, or the number of components where there is none.
     pub fn position(self, id: ComponentId) -> usize
-        requires { Charted self }
         ensures { result ≡ position (entries self) id }
     {
         self.positions[id.0 as usize] as usize
@@ -79,7 +86,7 @@ impl Chain {
 
     // The position of what the component at `p` depends on, or the number of components where it depends on none.
     pub fn parent(self, p: usize) -> usize
-        requires { (Charted self) × (p < length (entries self)) }
+        requires { p < length (entries self) }
         ensures { result ≡ parent (entries self) p }
     {
         self.parents[p] as usize

@@ -1,7 +1,7 @@
 -- A list is accepted exactly where it is sound: the theorem `accepted`.
 use Rattle.std.specs.Prelude.{Option, None, Some, Ok, Err}
 use Prim.Native.Nat.{ℕ, zero, suc, ◌+◌, ◌≤◌, ◌<◌}
-use mathlib.Core.Path.{◌≡◌, refl, sym}
+use mathlib.Core.Path.{◌≡◌, refl, sym, ap}
 use mathlib.Core.Logic.{◌↔◌}
 use mathlib.Core.Bool.{Bool, true, false}
 use mathlib.Core.List.{List, [], ◌∷◌}
@@ -15,7 +15,7 @@ use Rattle.model.specs.declared.Component.{Component}
 use Rattle.components.specs.declared.ChainError.{ChainError}
 use Rattle.components.specs.declared.ChainError.TheVariants.{Empty, TooLong, DuplicateId, UnknownDependency, ForwardDependency}
 use Rattle.model.specs.Vocabulary.{pick}
-use Rattle.components.specs.Chain.{position, new_test, link_test, new_ids, links, at, id_at, depends_at, or_else, first_from, first, verdict_of, Sound, Verdict, no_refusal}
+use Rattle.components.specs.Chain.{position, new_test, link_test, new_ids, links, at, id_at, depends_at, or_else, first_from, first, verdict_of, refuses, Sound, Verdict, no_refusal}
 use Rattle.components.proofs.Lookup.{position-holds, position-least, own-place, parent-earlier}
 
 -- A refusal is no acceptance.
@@ -128,3 +128,14 @@ module _ (n : ℕ) (ch : List Component) where
   -- each dependency stands strictly earlier.
   pub accepted : (verdict_of n ch ≡ no_refusal) ↔ Sound n ch
   accepted = (only-sound, if-sound)
+
+  not-refused : (v : Verdict) → refuses v ≡ false → v ≡ no_refusal
+  not-refused (Ok u) e = refl
+  not-refused (Err x) e = cc
+
+  -- The same where the verdict is tested.
+  pub accepted-sound : refuses (verdict_of n ch) ≡ false → Sound n ch
+  accepted-sound e = only-sound (not-refused (verdict_of n ch) e)
+
+  pub sound-accepted : Sound n ch → refuses (verdict_of n ch) ≡ false
+  sound-accepted s = ap refuses (if-sound s)

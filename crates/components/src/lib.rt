@@ -7,7 +7,8 @@ ghost use Rattle.components.specs.Chain.{entries_of, no_entries, pushed, positio
 use model::{Component, ComponentAttrs, ComponentId, ComponentKind, FailurePolicy};
 
 // The entries handed in. The length may be any number: what stands past it is not looked at, and of a longer list
-// the first 255 entries are kept.
+// the first 255 entries are kept. So it is no `Bounded`, whose length is never over its array's; both are fixed memory, since no
+// call uses the heap.
 #[derive(Clone, Copy)]
 pub struct ComponentList {
     pub entries: [Component; 255],
@@ -30,7 +31,8 @@ pub enum ChainError {
     },
 }
 
-// A number of the scope's questions and its two places.
+// A number of the scope's questions and its two places, as C and people are given them: document 01's own numbers, made of the
+// error in one place below.
 #[derive(Clone, Copy, Debug, PartialEq, Eq)]
 pub struct Answer {
     pub number: u64,

@@ -2,21 +2,21 @@
 // effects go into its sink in order.
 #![tactic(auto)]
 
-ghost use Rattle.std.specs.Prelude.{◌≡◌, ◌<◌};
+ghost use Rattle.std.specs.Prelude.{◌≡◌};
 ghost use Rattle.chain.specs.Tables.{entries, size};
 ghost use Rattle.cascade.specs.Cascade.{cascade};
 ghost use Rattle.machine.specs.View.{out, stay};
-ghost use Rattle.machine.specs.Acts.{Does};
+ghost use Rattle.machine.specs.Acts.{Does, DoesAll};
 ghost use Rattle.holds.specs.Acts.{gating_all};
-ghost use Rattle.entry.specs.Premise.{Sane, Placed, DoesAll};
 ghost use Rattle.corruption.specs.Corruption.{gates_failed, gate_by_policy, corrupt, move_on, recover};
 ghost use Rattle.corruption.specs.Cases.{follows, before};
 
-use chain::Chain;
+use chain::{Chain, Member};
 use machine::Work;
-use model::{ComponentId, Effect, FailurePolicy};
+use model::{Effect, FailurePolicy};
 
-// Where a corruption is met: in a walk, while an update is staged, or elsewhere.
+// Where a corruption is met: in a walk, while an update is staged, or elsewhere. An enum and no closure: what follows and what
+// comes before are chosen by the same word, which the contracts name.
 #[derive(Clone, Copy, Debug, PartialEq, Eq)]
 pub enum Situation {
     Walking,
@@ -24,12 +24,11 @@ pub enum Situation {
     Elsewhere,
 }
 
-// Gates the component at p and all that depends on it.
-fn cascade_hold(chain: Chain, w: Work, p: usize) -> Work
-    requires { (Sane chain w) × (p < size chain) }
-    ensures { Does (size chain) w (gating_all (entries chain) (cascade (entries chain) p)) result }
+// Gates the component and all that depends on it.
+fn cascade_hold(member: Member, w: Work) -> Work
+    ensures { Does (size member.chain) w (gating_all (entries member.chain) (cascade (entries member.chain) member.place)) result }
 {
-    holds::gate_all(chain, w, cascade::cascade_order(chain, p))
+    holds::gate_all(member.chain, w, cascade::cascade_order(&member))
 }
 
 // Does this policy gate a component that fails? Required does not: a corruption recovers it, and exhaustion reports it.
@@ -39,22 +38,20 @@ pub fn gates_failed(policy: FailurePolicy) -> bool
     matches!(policy, FailurePolicy::Isolable | FailurePolicy::Cascading)
 }
 
-// The gate that the policy of the component at p means, and none for Required. Corruption and exhausted recovery both ask
+// The gate that the policy of the component means, and none for Required. Corruption and exhausted recovery both ask
 // `gates_failed` and then this, so that they cannot differ.
-pub fn gate_by_policy(chain: Chain, w: Work, p: usize) -> Work
-    requires { (Sane chain w) × (p < size chain) }
-    ensures { Does (size chain) w (gate_by_policy (entries chain) p stay stay) result }
+pub fn gate_by_policy(member: Member, w: Work) -> Work
+    ensures { Does (size member.chain) w (gate_by_policy (entries member.chain) member.place stay stay) result }
 {
-    match chain.policy_at(p) {
+    match member.policy() {
         FailurePolicy::Required => w,
-        FailurePolicy::Isolable => holds::gate_one(chain, w, p),
-        FailurePolicy::Cascading => cascade_hold(chain, w, p),
+        FailurePolicy::Isolable => holds::gate_one(member.chain, w, member.place),
+        FailurePolicy::Cascading => cascade_hold(member, w),
     }
 }
 
 // The walk leaves a component that was isolated under its cursor, so that a verdict still on its way releases nothing.
 fn move_on(chain: Chain, w: Work) -> Work
-    requires { Sane chain w }
     ensures { Does (size chain) w (move_on (entries chain)) result }
 {
     let cursor = w.rot.cursor;
@@ -66,7 +63,6 @@ fn move_on(chain: Chain, w: Work) -> Work
 
 // What follows a corruption after which the state stays.
 fn follow(chain: Chain, w: Work, situation: Situation) -> Work
-    requires { Sane chain w }
     ensures { Does (size chain) w (follows situation (entries chain)) result }
 {
     match situation {
@@ -89,37 +85,23 @@ fn precede(w: Work, situation: Situation) -> Work
 }
 
 // A recovery, after what comes before it.
-pub fn start_recovery(
-    chain: Chain,
-    w: Work,
-    id: ComponentId,
-    p: usize,
-    situation: Situation,
-) -> Work
-    requires { Placed chain w id p }
-    ensures { Does (size chain) w (recover (entries chain) (before situation) id) result }
+pub fn start_recovery(member: Member, w: Work, situation: Situation) -> Work
+    ensures { Does (size member.chain) w (recover (entries member.chain) (before situation) member.id) result }
 {
     let v = precede(w, situation);
-    entry::enter_recovering(chain, v, id, p)
+    entry::enter_recovering(member, v)
 }
 
 // The corruption rule: nothing for an isolated component; else by its policy.
-pub fn handle_corruption(
-    chain: Chain,
-    w: Work,
-    id: ComponentId,
-    p: usize,
-    situation: Situation,
-) -> Work
-    requires { Placed chain w id p }
-    ensures { Does (size chain) w (corrupt (entries chain) (follows situation (entries chain)) (before situation) id) result }
+pub fn handle_corruption(member: Member, w: Work, situation: Situation) -> Work
+    ensures { Does (size member.chain) w (corrupt (entries member.chain) (follows situation (entries member.chain)) (before situation) member.id) result }
 {
-    if machine::is_gated(w.rot, chain.count(), p) {
-        return follow(chain, w, situation);
+    if machine::is_gated(w.rot, member.chain.count(), member.place) {
+        return follow(member.chain, w, situation);
     }
-    if gates_failed(chain.policy_at(p)) {
-        let v = gate_by_policy(chain, w, p);
-        return follow(chain, v, situation);
+    if gates_failed(member.policy()) {
+        let v = gate_by_policy(member, w);
+        return follow(member.chain, v, situation);
     }
-    start_recovery(chain, w, id, p, situation)
+    start_recovery(member, w, situation)
 }

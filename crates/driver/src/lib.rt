@@ -10,7 +10,6 @@ ghost use Rattle.machine.specs.View.{statuses_of};
 ghost use Rattle.printed.specs.Transcript.{status_line};
 ghost use Rattle.pending.specs.Queue.{events};
 ghost use Rattle.text.specs.Lines.{text_of};
-ghost use Rattle.settling.specs.View.{Short, Whole};
 ghost use Rattle.settling.specs.Parts.{Moves};
 ghost use Rattle.driver.specs.Run.{Setting, Point, silent, answering, handed, reading, step_by, transcript};
 ghost use Rattle.driver.specs.Seen.{run_on, Ran};
@@ -25,7 +24,7 @@ use pending::Pending;
 use settling::{Dispatch, Machine, Reply};
 use text::Line;
 
-// What a turn of the machine would do.
+// What a turn of the machine would do. A word and no closure: the contracts name it, and each of two functions does its part of it.
 #[derive(Clone, Copy)]
 pub enum Stage {
     Waits,
@@ -67,7 +66,8 @@ pub enum Act {
     Turn,
 }
 
-// The line that a step writes: none, of the effect that it hands out, of the state before it, of the next component.
+// The line that a step writes: none, of the effect that it hands out, of the state before it, of the next component. A word, as `Act`
+// is: the line can be written only after the act.
 #[derive(Clone, Copy)]
 pub enum Say {
     Silence,
@@ -159,7 +159,8 @@ fn answer_row(c: Cursor, row: Option<Row>, after: usize) -> Plan
     }
 }
 
-// An effect waits for the next line.
+// An effect waits for the next line. `Stands` is a premise here and no invariant of a cursor: the definitions make one cursor of
+// another in ten ways, and each would have to carry its proof.
 fn answer_by_line(sheet: &[u8], c: Cursor) -> Plan
     requires { Stands sheet.now c }
     ensures { (limit n : ℕ) (g : Stage) → Planned sheet.now limit n c g (λ (st : Setting) (p : Point). silent (answering p p.rows)) result }
@@ -275,8 +276,9 @@ fn takes(act: Act, stage: Stage) -> bool
 }
 
 // The dispatch after a turn that takes no event; `effect` is the next one of a batch of `len`.
+#[tactic(auto, using(settling::proofs::Views::short_of))]
 fn turned(d: Dispatch, len: usize, effect: Effect, stage: Stage) -> Dispatch
-    requires { (Short d) × (stage ≡ Stage.HandsOut → d.next < len) }
+    requires { stage ≡ Stage.HandsOut → d.next < len }
     ensures { Moves len (λ es. turn_at effect (drop (d.next + 1) es) stage) d result }
 {
     match stage {
@@ -287,8 +289,9 @@ fn turned(d: Dispatch, len: usize, effect: Effect, stage: Stage) -> Dispatch
 }
 
 // The dispatch after an act that takes no event.
+#[tactic(auto, using(settling::proofs::Views::short_of))]
 fn acted(d: Dispatch, len: usize, effect: Effect, act: Act, stage: Stage) -> Dispatch
-    requires { (Short d) × (stage ≡ Stage.HandsOut → d.next < len) }
+    requires { stage ≡ Stage.HandsOut → d.next < len }
     ensures { Moves len (λ es. act_by (turn_at effect (drop (d.next + 1) es) stage) act) d result }
 {
     match act {
@@ -300,7 +303,7 @@ fn acted(d: Dispatch, len: usize, effect: Effect, act: Act, stage: Stage) -> Dis
     }
 }
 
-// The front event. Of an empty queue it is EffectFailed, which lets nothing run.
+// The front event. Of an empty queue, which is never asked, it is EffectFailed, which lets nothing run: the value spares a premise.
 fn front_event(pending: Pending) -> Event
     ensures { (e : Event) (q : List Event) → events pending ≡ e ∷ q → result ≡ e }
 {
@@ -378,45 +381,44 @@ fn ended(outcome: Result<(), RunError>, c: Cursor) -> End
     }
 }
 
-// The run of a sheet on a machine that `new` made for it, into a lent buffer. The machine is changed in place, part by part. The
-// next effect is read at every step, and used only where one is left: then its place is below 512, the number of effects that
-// there is room for.
-pub fn drive(sheet: &[u8], out: &mut [u8], limit: u64, mut machine: Machine) -> End
-    requires { Whole machine }
+// The run of a sheet on a machine that `new` made for it, into a lent buffer. The machine is taken apart, and its parts are changed
+// in place. The next effect is read at every step, and used only where one is left: then its place is below 512, the number of
+// effects that there is room for.
+pub fn drive(sheet: &[u8], out: &mut [u8], limit: u64, machine: Machine) -> End
     ensures { Ran out.old (run_on sheet.now (length out.old) limit machine) result out.new }
 {
-    let n = machine.chain.count();
+    let Machine {
+        chain,
+        max_retry,
+        mut work,
+        mut dispatch,
+    } = machine;
+    let n = chain.count();
     let mut c = start();
+    // A step is as long as its line, and how many there are is not known before: no range or iterator counts them.
     loop {
         if let Some(outcome) = c.outcome {
             return ended(outcome, c);
         }
-        let stage = due(machine.dispatch, machine.work.sink.len);
+        let stage = due(dispatch, work.sink.len);
         let Plan { cursor, act, say } = next_step(sheet, limit, n, stage, c);
-        let effect = machine.work.sink.effects[machine.dispatch.next % 512];
-        let before = machine.work.state;
+        let effect = work.sink.effects[dispatch.next % 512];
+        let before = work.state;
         if takes(act, stage) {
-            let event = front_event(machine.dispatch.pending);
-            machine.dispatch = settling::taken(machine.dispatch);
-            if rot::idles(machine.chain.positions, n, before, event) {
-                machine.work.sink.len = 0;
+            let event = front_event(dispatch.pending);
+            dispatch = settling::taken(dispatch);
+            if rot::idles(&chain.positions, n, before, event) {
+                work.sink.len = 0;
             } else {
-                machine.work = rot::step(
-                    machine.chain,
-                    machine.max_retry,
-                    before,
-                    machine.work.rot,
-                    machine.work.sink,
-                    event,
-                );
+                work = rot::step(chain, max_retry, before, work.rot, work.sink, event);
             }
         } else {
-            machine.dispatch = acted(machine.dispatch, machine.work.sink.len, effect, act, stage);
+            dispatch = acted(dispatch, work.sink.len, effect, act, stage);
         }
         let line = if tells(say) {
-            told_line(machine.chain, machine.work.rot, n, c.told)
+            told_line(chain, work.rot, n, c.told)
         } else {
-            said_line(say, before, machine.dispatch.waiting)
+            said_line(say, before, dispatch.waiting)
         };
         let room = text::append(out, cursor.written, line);
         c = record_line(cursor, room);

@@ -14,14 +14,14 @@ fn id_line(name: &[u8], id: ComponentId) -> Line
     requires { length name.now ≤ 20 }
     ensures { text_of result ≡ line (bytes "X" ⇥ name.now ⇥ id_text id) }
 {
-    text::number_line(b'X', name, id.0 as u64)
+    text::number_line(b'X', name, u64::from(id.0))
 }
 
 fn recover_line(id: ComponentId, attempt: u8) -> Line
     ensures { text_of result ≡ line (bytes "X" ⇥ bytes "RecoverComponent" ⇥ id_text id ⇥ decimal attempt) }
 {
-    let l = text::push_number(text::start(b'X', b"RecoverComponent"), id.0 as u64);
-    text::push(text::push_number(l, attempt as u64), b'\n')
+    let l = text::push_number(text::start(b'X', b"RecoverComponent"), u64::from(id.0));
+    text::push(text::push_number(l, u64::from(attempt)), b'\n')
 }
 
 fn push_cause(l: Line, kind: BootFailureKind) -> Line
@@ -37,8 +37,8 @@ fn push_cause(l: Line, kind: BootFailureKind) -> Line
 fn boot_line(id: ComponentId, checkpoint: u16, kind: BootFailureKind) -> Line
     ensures { text_of result ≡ line (bytes "X" ⇥ bytes "ReportBootFailed" ⇥ id_text id ⇥ decimal checkpoint ⇥ failure_text kind) }
 {
-    let l = text::push_number(text::start(b'X', b"ReportBootFailed"), id.0 as u64);
-    let l = push_cause(text::push_number(l, checkpoint as u64), kind);
+    let l = text::push_number(text::start(b'X', b"ReportBootFailed"), u64::from(id.0));
+    let l = push_cause(text::push_number(l, u64::from(checkpoint)), kind);
     text::push(l, b'\n')
 }
 

@@ -3,13 +3,12 @@
 
 ghost use Rattle.std.specs.Prelude.{◌≤◌};
 ghost use Rattle.chain.specs.Tables.{entries, size};
-ghost use Rattle.machine.specs.Acts.{Does};
+ghost use Rattle.machine.specs.Acts.{Does, DoesAll};
 ghost use Rattle.entry.specs.Entry.{enter_locked, enter_ready, enter_updating, enter_recovering, enter_walk, onward};
-ghost use Rattle.entry.specs.Premise.{Sane, Placed, DoesAll};
 
-use chain::Chain;
+use chain::{Chain, Member};
 use machine::Work;
-use model::{ComponentId, Effect, State};
+use model::{Effect, State};
 use store::Status;
 
 pub fn enter_locked(mut w: Work) -> Work
@@ -20,11 +19,10 @@ pub fn enter_locked(mut w: Work) -> Work
     w
 }
 
-pub fn enter_ready(chain: Chain, w: Work) -> Work
-    requires { Sane chain w }
-    ensures { Does (size chain) w enter_ready result }
+pub fn enter_ready(w: Work) -> Work
+    ensures { DoesAll w enter_ready result }
 {
-    let mut v = advance::clear_all_retries(w, chain.count());
+    let mut v = advance::clear_all_retries(w);
     v.state = State::Ready;
     v
 }
@@ -39,17 +37,16 @@ pub fn enter_updating(mut w: Work) -> Work
     w
 }
 
-// The component is held while it is restored, and its retry count tells the driver which attempt this is. The chain is
-// there for the contract alone.
-pub fn enter_recovering(chain: Chain, mut w: Work, id: ComponentId, p: usize) -> Work
-    requires { Placed chain w id p }
-    ensures { Does (size chain) w (enter_recovering (entries chain) id) result }
+// The component is held while it is restored, and its retry count tells the driver which attempt this is.
+pub fn enter_recovering(member: Member, mut w: Work) -> Work
+    ensures { Does (size member.chain) w (enter_recovering (entries member.chain) member.id) result }
 {
-    let attempt = w.rot.statuses[p].retry;
-    w.rot.statuses[p] = Status {
+    let Member { id, place, .. } = member;
+    let attempt = w.rot.statuses[place].retry;
+    w.rot.statuses[place] = Status {
         awaiting_boot: false,
         released: false,
-        ..w.rot.statuses[p]
+        ..w.rot.statuses[place]
     };
     w.rot.pending_commit = false;
     w.state = State::Recovering(id);
@@ -59,7 +56,6 @@ pub fn enter_recovering(chain: Chain, mut w: Work, id: ComponentId, p: usize) ->
 
 // A walk starts with every released component held, so that nothing is verified while it runs.
 pub fn enter_walk(chain: Chain, w: Work) -> Work
-    requires { Sane chain w }
     ensures { Does (size chain) w (enter_walk (entries chain)) result }
 {
     let v = advance::quiesce_all(chain, w);
@@ -72,7 +68,7 @@ pub fn enter_walk(chain: Chain, w: Work) -> Work
 
 // Advances from p. The walk goes on in `state`, and ends in Ready where none is left.
 pub fn walk_on(chain: Chain, w: Work, p: usize, state: State) -> Work
-    requires { (Sane chain w) × (p ≤ size chain) }
+    requires { p ≤ size chain }
     ensures { Does (size chain) w (onward (entries chain) p state) result }
 {
     let mut v = advance::advance_to_next_ungated(chain, w, p);
@@ -80,5 +76,5 @@ pub fn walk_on(chain: Chain, w: Work, p: usize, state: State) -> Work
         v.state = state;
         return v;
     }
-    enter_ready(chain, v)
+    enter_ready(v)
 }

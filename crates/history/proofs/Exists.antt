@@ -9,19 +9,18 @@ use native.Mathlib.Omega.{arith}
 use lib.ListN.{length, length-append, length-take, length-replicate}
 use borrow.Author.Tests.{ltb-true}
 use Rattle.model.specs.Vocabulary.{pick}
-use Rattle.components.specs.Chain.{entries_of, verdict_of, answer_of, Sound, no_refusal}
+use Rattle.components.specs.Chain.{entries_of, verdict_of, Sound, no_refusal}
 use Rattle.model.specs.declared.Component.{Component}
 use Rattle.components.specs.declared.ComponentList.{ComponentList}
 use Rattle.model.specs.declared.Event.{Event}
 use Rattle.model.specs.declared.Effect.{Effect}
 use Rattle.model.proofs.Pick.{pick_p}
 use Rattle.components.proofs.Accepted.{accepted}
-use Rattle.chain.specs.Tables.{entries}
 use Rattle.pending.specs.Queue.{has_room, emits}
 use Rattle.machine.specs.Status.{fresh}
 use Rattle.machine.specs.View.{Core}
 use Rattle.rot.proofs.Bound.{step-length, step-cursor}
-use Rattle.settling.specs.declared.Machine.{Machine}
+use Rattle.settling.specs.declared.whole.Machine.{Machine}
 use Rattle.settling.specs.Settle.{Model, Run, queue_is, latch, fail, enqueue, hand_out, turn_by, turned, turns, settle, replied}
 use Rattle.settling.specs.View.{view, chain_of, Rests, Valid}
 use Rattle.settling.proofs.Ends.{settle-ends}
@@ -35,7 +34,7 @@ use Rattle.sm.specs.declared.CallError.TheVariants.{NothingWaits, NotDone}
 use Rattle.history.specs.History.{Call, Begin, ReplyTo, expected, machine_after, expected_after, answers_to}
 use Rattle.history.specs.Demand.{Follows, made, called, History, NotEmpty}
 use Rattle.history.proofs.Few.{Reached, step-reached, step-few, start-reached}
-use Rattle.history.proofs.Stored.{store_of, Fitting, Sizes, store_view, store-chain, store-entries, store-max_retry, store-valid, store-sizes}
+use Rattle.history.proofs.Stored.{store_of, store-same, Fitting, Sizes, store_view, store-chain, store-entries, store-max_retry, store-valid, store-sizes}
 
 -- ---- Every machine on the way fits
 
@@ -197,28 +196,29 @@ module _ (l : ComponentList) (max : ℕ) (v : verdict_of l.len (entries_of l) �
     few = s.held.few;
   }
 
+  after_fits : (ks : List Call) → Fitting (length (entries_of l)) (machine_after (entries_of l) max ks)
+  after_fits ks = fits (machine_after (entries_of l) max ks) (stands (entries_of l) max ks)
+
   -- The struct for the machine after a list of calls, and what is known of it.
   abbrev at : List Call → Machine
-  at ks = store_of l max (machine_after (entries_of l) max ks)
+  at ks = store_of l sound max (machine_after (entries_of l) max ks) (after_fits ks)
 
   read : (ks : List Call) → view (at ks) ≡ machine_after (entries_of l) max ks
-  read ks = store_view l sound max (machine_after (entries_of l) max ks) (fits (machine_after (entries_of l) max ks) (stands (entries_of l) max ks))
+  read ks = store_view l sound max (machine_after (entries_of l) max ks) (after_fits ks)
 
   chained : (ks : List Call) → chain_of (at ks) ≡ entries_of l
-  chained ks = store-entries l sound max (machine_after (entries_of l) max ks) (fits (machine_after (entries_of l) max ks) (stands (entries_of l) max ks))
+  chained ks = store-entries l sound max (machine_after (entries_of l) max ks) (after_fits ks)
 
   limited : (ks : List Call) → (at ks).max_retry ≡ max
-  limited ks = store-max_retry l sound max (machine_after (entries_of l) max ks) (fits (machine_after (entries_of l) max ks) (stands (entries_of l) max ks))
+  limited ks = store-max_retry l sound max (machine_after (entries_of l) max ks) (after_fits ks)
 
   valid : (ks : List Call) → Valid (at ks)
-  valid ks =
-      store-valid l sound max (machine_after (entries_of l) max ks) (fits (machine_after (entries_of l) max ks) (stands (entries_of l) max ks))
-      (stands (entries_of l) max ks).rests
+  valid ks = store-valid l sound max (machine_after (entries_of l) max ks) (after_fits ks) (stands (entries_of l) max ks).rests
 
   same-chain : (ks js : List Call) → (at ks).chain ≡ (at js).chain
   same-chain ks js =
-      store-chain l sound max (machine_after (entries_of l) max ks) (fits (machine_after (entries_of l) max ks) (stands (entries_of l) max ks))
-      ∙ sym (store-chain l sound max (machine_after (entries_of l) max js) (fits (machine_after (entries_of l) max js) (stands (entries_of l) max js)))
+      store-chain l sound max (machine_after (entries_of l) max ks) (after_fits ks)
+      ∙ sym (store-chain l sound max (machine_after (entries_of l) max js) (after_fits js))
 
   -- What the code's call on the struct is to give is what the definitions' call on the machine gives.
   asked : (ks : List Call) (k : Call) → expected_after (entries_of l) max ks k ≡ expected (chain_of (at ks)) (at ks).max_retry (view (at ks)) k
@@ -244,9 +244,12 @@ module _ (l : ComponentList) (max : ℕ) (v : verdict_of l.len (entries_of l) �
         effect = refl;
         chain = same-chain (k ∷ ks) ks;
         max_retry = limited (k ∷ ks) ∙ sym (limited ks);
-        kept = λ u. ap (store_of l max) (next ks k ∙ a.kept u);
+        kept =
+            λ u.
+            store-same l sound max (machine_after (entries_of l) max (k ∷ ks)) (machine_after (entries_of l) max ks) (after_fits (k ∷ ks)) (after_fits ks)
+            (next ks k ∙ a.kept u);
         few = a.few;
-        valid = valid (k ∷ ks);
+        valid = λ u. valid (k ∷ ks);
       }
 
   begins : NewGives l max (Ok (at []))
@@ -259,10 +262,10 @@ module _ (l : ComponentList) (max : ℕ) (v : verdict_of l.len (entries_of l) �
   follows (k ∷ ks) =
       subst (λ (n : ℕ). Follows l max (k ∷ ks) (record { number = n; effect = (expected_after (entries_of l) max ks k).effect } ∷ answers_to (entries_of l) max ks) (at (k ∷ ks)))
       (told-number (entries_of l) max (machine_after (entries_of l) max ks) k)
-      (called k (gives ks k) (follows ks) (valid ks) (subst (λ (x : Expected). CallGives (at ks) x (gives ks k)) (asked ks k) (gave ks k)))
+      (called k (gives ks k) (follows ks) (subst (λ (x : Expected). CallGives (at ks) x (gives ks k)) (asked ks k) (gave ks k)))
 
   sizes : (ks : List Call) → Sizes (at ks)
-  sizes ks = store-sizes l sound max (machine_after (entries_of l) max ks) (fits (machine_after (entries_of l) max ks) (stands (entries_of l) max ks))
+  sizes ks = store-sizes l sound max (machine_after (entries_of l) max ks) (after_fits ks)
 
 -- There is a history, and its machine has arrays of the lengths that the code declares.
 pub sized-history : (l : ComponentList) (max : ℕ) (ks : List Call) → verdict_of l.len (entries_of l) ≡ no_refusal → (h : History l max ks) × Sizes h.machine

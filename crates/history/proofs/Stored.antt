@@ -1,9 +1,13 @@
 -- A struct of the code for each machine of the definitions that fits: what it is read as, that it is valid, and that its
--- arrays have the lengths that the code declares.
+-- arrays have the lengths that the code declares. The struct holds the proofs that it is one, so these are made here too; of
+-- equal machines the structs are equal, since each of those facts has one proof at most.
 use mathlib.Core.Path.{◌≡◌, refl, sym, subst, ap, ap₂, ◌∙◌}
+use mathlib.Core.HLevel.{is_prop→PathP}
 use mathlib.Core.Bool.{Bool, true, false}
 use mathlib.Core.List.{List, [], ◌∷◌, ◌++◌, map}
 use Prim.Native.Nat.{ℕ, zero, suc, ◌+◌, ◌-◌, ◌*◌, ◌/◌, ◌%◌, ◌≤◌, ◌<◌}
+use native.Mathlib.Bridge.{le_prop}
+use native.Mathlib.Nat.{ℕ_set}
 use native.Mathlib.Omega.{arith}
 use lib.Dec.{eqb}
 use lib.ListN.{length, get_or, take, drop, replicate, length-map, length-append, length-replicate, length-take, length-drop, take-append-drop}
@@ -11,6 +15,7 @@ use lib.Seq.{take_at, drop_at, length-take-le}
 use Rattle.model.specs.Vocabulary.{pick, id_of}
 use Rattle.components.specs.Chain.{entries_of, position, Sound}
 use Rattle.components.specs.declared.ComponentList.{ComponentList}
+use Rattle.components.proofs.Accepted.{sound-accepted}
 use Rattle.model.specs.declared.Event.{Event}
 use Rattle.model.specs.declared.Event.TheVariants.{EffectFailed}
 use Rattle.model.specs.declared.Effect.{Effect}
@@ -21,7 +26,6 @@ use Rattle.store.specs.declared.Sink.{Sink}
 use Rattle.store.specs.Sink.{held}
 use Rattle.chain.specs.declared.Chain.{Chain}
 use Rattle.chain.specs.Links.{parent}
-use Rattle.chain.specs.Tables.{Charted}
 use Rattle.pending.specs.declared.Pending.{Pending}
 use Rattle.pending.specs.Queue.{events}
 use Rattle.machine.specs.declared.ComponentStatus.{ComponentStatus}
@@ -30,9 +34,9 @@ use Rattle.machine.specs.declared.ComponentLifecycle.TheVariants.{Nominal, Isola
 use Rattle.machine.specs.declared.Rot.{Rot}
 use Rattle.machine.specs.Status.{iso, is_isolated}
 use Rattle.machine.specs.View.{Core, lifecycle_of, joined, statuses_of, Fit}
-use Rattle.settling.specs.declared.Machine.{Machine}
+use Rattle.settling.specs.declared.whole.Machine.{Machine}
 use Rattle.settling.specs.Settle.{Model}
-use Rattle.settling.specs.View.{view, Whole, Rests, Valid}
+use Rattle.settling.specs.View.{view, Rests, Valid}
 
 -- ---- Words from flags
 
@@ -90,9 +94,9 @@ unfolding held sink_of
 sink-held es = take_at es _ (length es) refl
 
 unfoldable pub pending_of : List Event → Pending
-pending_of q = record { entries = padded 8 EffectFailed q; len = length q }
+pending_of q = record { entries = record { items = padded 8 EffectFailed q; len = length q } }
 
-pending-events : (q : List Event) → events (pending_of q) ≡ q
+pub pending-events : (q : List Event) → events (pending_of q) ≡ q
 unfolding events pending_of
 pending-events q = take_at q _ (length q) refl
 
@@ -132,7 +136,7 @@ module _ (c : Core) (n : ℕ) (sized : length c.statuses ≡ n) (most : n ≤ 25
       (take_at (map stored_of c.statuses) _ n (length-map c.statuses stored_of ∙ sized))
       ∙ joined_back c.statuses
 
-  rot-fits : c.cursor ≤ n → Fit n (rot_of c)
+  pub rot-fits : c.cursor ≤ n → Fit n (rot_of c)
   unfolding rot_of
   rot-fits low = record {
     clean = ap (drop n) rot-flags ∙ drop_at (map iso c.statuses) _ n (length-map c.statuses iso ∙ sized)
@@ -146,7 +150,7 @@ unfoldable pub rows : ℕ → (ℕ → ℕ) → List ℕ
 rows zero f = []
 rows (suc n) f = f 0 ∷ rows n (λ k. f (suc k))
 
-rows_at : (n : ℕ) (f : ℕ → ℕ) (i : ℕ) → i < n → get_or (rows n f) i 0 ≡ f i
+pub rows_at : (n : ℕ) (f : ℕ → ℕ) (i : ℕ) → i < n → get_or (rows n f) i 0 ≡ f i
 unfolding rows
 rows_at zero f i h = absurd (omega arith)
 rows_at (suc n) f zero h = refl
@@ -157,25 +161,16 @@ unfolding rows
 rows-length zero f = refl
 rows-length (suc n) f = ap suc (rows-length n (λ k. f (suc k)))
 
-unfoldable pub chart_of : ComponentList → Chain
-chart_of l = record { list = l; positions = rows 256 (λ i. position (entries_of l) (id_of i)); parents = rows 255 (parent (entries_of l)) }
-
-charted : (l : ComponentList) → length (entries_of l) ≤ 255 → Charted (chart_of l)
-unfolding chart_of
-charted l h = record {
-  positions = λ i k. rows_at 256 (λ i. position (entries_of l) (id_of i)) i k;
-  parents = λ p k. rows_at 255 (parent (entries_of l)) p (omega arith);
+unfoldable pub chart_of : (l : ComponentList) → length (entries_of l) ≤ 255 → Chain
+chart_of l h = record {
+  list = l;
+  positions = rows 256 (λ i. position (entries_of l) (id_of i));
+  parents = rows 255 (parent (entries_of l));
+  by_id = λ i k. rows_at 256 (λ i. position (entries_of l) (id_of i)) i k;
+  by_place = λ p k. rows_at 255 (parent (entries_of l)) p (omega arith);
 }
 
 -- ---- The machine
-
-unfoldable pub store_of : ComponentList → ℕ → Model → Machine
-store_of l max m = record {
-  chain = chart_of l;
-  max_retry = max;
-  work = record { state = m.core.state; rot = rot_of m.core; sink = sink_of m.left };
-  dispatch = record { next = 0; waiting = m.waiting; pending = pending_of m.queue; failed = m.failed };
-}
 
 -- A machine of the definitions that fits into the struct.
 pub record Fitting (n : ℕ) (m : Model) : Type 0 where
@@ -184,6 +179,14 @@ pub record Fitting (n : ℕ) (m : Model) : Type 0 where
   pub room : length m.left ≤ 512
   pub few : length m.queue ≤ 8
 
+fitting_prop : (n : ℕ) (m : Model) → IsProp (Fitting n m)
+fitting_prop n m f g i = record {
+  sized = ℕ_set _ _ f.sized g.sized i;
+  low = le_prop f.low g.low i;
+  room = le_prop f.room g.room i;
+  few = le_prop f.few g.few i;
+}
+
 -- The lengths of the arrays of a machine, but for the list that it was made for.
 pub record Sizes (m : Machine) : Type 0 where
   pub positions : length m.chain.positions ≡ 256
@@ -191,54 +194,65 @@ pub record Sizes (m : Machine) : Type 0 where
   pub statuses : length m.work.rot.statuses ≡ 255
   pub words : length m.work.rot.isolated.words ≡ 4
   pub effects : length m.work.sink.effects ≡ 512
-  pub entries : length m.dispatch.pending.entries ≡ 8
+  pub entries : length m.dispatch.pending.entries.items ≡ 8
 
-module _ (l : ComponentList) (s : Sound l.len (entries_of l)) (max : ℕ) (m : Model) (f : Fitting (length (entries_of l)) m) where
-  most : length (entries_of l) ≤ 255
+module _ (l : ComponentList) (s : Sound l.len (entries_of l)) (max : ℕ) where
+  pub most : length (entries_of l) ≤ 255
   most = omega (arith, length-take l.len l.entries, s.few)
 
-  pub store_view : view (store_of l max m) ≡ m
-  unfolding view store_of chart_of rot_of
-  store_view =
-      let st : statuses_of (length (entries_of l)) (rot_of m.core) ≡ m.core.statuses = rot-statuses m.core (length (entries_of l)) f.sized most in
-      λ i. record {
-        core = record { state = m.core.state; cursor = m.core.cursor; statuses = st i; window = m.core.window };
-        waiting = m.waiting;
-        left = sink-held m.left i;
-        queue = pending-events m.queue i;
-        failed = m.failed;
-      }
-
-  pub store-chain : (store_of l max m).chain ≡ chart_of l
-  unfolding store_of
-  store-chain = refl
-
-  pub store-entries : entries_of (store_of l max m).chain.list ≡ entries_of l
-  unfolding store_of chart_of
-  store-entries = refl
-
-  pub store-max_retry : (store_of l max m).max_retry ≡ max
-  unfolding store_of
-  store-max_retry = refl
-
-  store-whole : Whole (store_of l max m)
-  unfolding store_of chart_of sink_of
-  store-whole = record {
-    sane = record { charted = charted l most; sound = s; fit = rot-fits m.core (length (entries_of l)) f.sized most f.low };
+  unfoldable pub store_of : (m : Model) → Fitting (length (entries_of l)) m → Machine
+  unfolding chart_of sink_of
+  store_of m f = record {
+    chain = chart_of l most;
+    max_retry = max;
+    work = record { state = m.core.state; rot = rot_of m.core; sink = sink_of m.left };
+    dispatch = record { next = 0; waiting = m.waiting; pending = pending_of m.queue; failed = m.failed };
+    accepted = sound-accepted l.len (entries_of l) s;
+    fit = rot-fits m.core (length (entries_of l)) f.sized most f.low;
     room = f.room;
     few = subst (λ (q : List Event). length q ≤ 8) (sym (pending-events m.queue)) f.few;
   }
 
-  pub store-valid : Rests m → Valid (store_of l max m)
-  store-valid r = record { whole = store-whole; rests = subst Rests (sym store_view) r }
+  -- Of equal machines it is the same struct, whatever the proofs are that they fit.
+  pub store-same : (m n : Model) (f : Fitting (length (entries_of l)) m) (g : Fitting (length (entries_of l)) n) → m ≡ n → store_of m f ≡ store_of n g
+  store-same m n f g e =
+      λ i. store_of (e i) (is_prop→PathP (λ j. Fitting (length (entries_of l)) (e j)) (λ j. fitting_prop (length (entries_of l)) (e j)) f g i)
 
-  pub store-sizes : Sizes (store_of l max m)
-  unfolding store_of chart_of rot_of sink_of pending_of
-  store-sizes = record {
-    positions = rows-length 256 (λ i. position (entries_of l) (id_of i));
-    parents = rows-length 255 (parent (entries_of l));
-    statuses = padded-length 255 _ (map stored_of m.core.statuses) (omega (arith, length-map m.core.statuses stored_of, f.sized, most));
-    words = words-length 4 (bits m.core.statuses);
-    effects = padded-length 512 LatchLockdown m.left (omega (arith, f.room));
-    entries = padded-length 8 EffectFailed m.queue (omega (arith, f.few));
-  }
+  module _ (m : Model) (f : Fitting (length (entries_of l)) m) where
+    pub store_view : view (store_of m f) ≡ m
+    unfolding view store_of chart_of rot_of
+    store_view =
+        let st : statuses_of (length (entries_of l)) (rot_of m.core) ≡ m.core.statuses = rot-statuses m.core (length (entries_of l)) f.sized most in
+        λ i. record {
+          core = record { state = m.core.state; cursor = m.core.cursor; statuses = st i; window = m.core.window };
+          waiting = m.waiting;
+          left = sink-held m.left i;
+          queue = pending-events m.queue i;
+          failed = m.failed;
+        }
+
+    pub store-chain : (store_of m f).chain ≡ chart_of l most
+    unfolding store_of
+    store-chain = refl
+
+    pub store-entries : entries_of (store_of m f).chain.list ≡ entries_of l
+    unfolding store_of chart_of
+    store-entries = refl
+
+    pub store-max_retry : (store_of m f).max_retry ≡ max
+    unfolding store_of
+    store-max_retry = refl
+
+    pub store-valid : Rests m → Valid (store_of m f)
+    store-valid r = subst Rests (sym store_view) r
+
+    pub store-sizes : Sizes (store_of m f)
+    unfolding store_of chart_of rot_of sink_of pending_of
+    store-sizes = record {
+      positions = rows-length 256 (λ i. position (entries_of l) (id_of i));
+      parents = rows-length 255 (parent (entries_of l));
+      statuses = padded-length 255 _ (map stored_of m.core.statuses) (omega (arith, length-map m.core.statuses stored_of, f.sized, most));
+      words = words-length 4 (bits m.core.statuses);
+      effects = padded-length 512 LatchLockdown m.left (omega (arith, f.room));
+      entries = padded-length 8 EffectFailed m.queue (omega (arith, f.few));
+    }

@@ -1,6 +1,5 @@
 -- Demand 3. The code is where the definitions say, and so are its answers; what every call keeps over the definitions then
 -- holds of the code's own log.
-use Rattle.std.specs.Prelude.{Ok}
 use mathlib.Core.Path.{◌≡◌, refl, sym, subst, ap, ◌∙◌}
 use mathlib.Core.List.{List, [], ◌∷◌}
 use Prim.Native.Nat.{ℕ}
@@ -8,7 +7,7 @@ use Rattle.components.specs.Chain.{entries_of, verdict_of, Sound, no_refusal}
 use Rattle.model.specs.declared.Component.{Component}
 use Rattle.components.specs.declared.ComponentList.{ComponentList}
 use Rattle.components.proofs.Accepted.{accepted}
-use Rattle.settling.specs.declared.Machine.{Machine}
+use Rattle.settling.specs.declared.whole.Machine.{Machine}
 use Rattle.settling.specs.Settle.{Model}
 use Rattle.settling.specs.View.{view, chain_of, Valid}
 use Rattle.chain.specs.Tables.{entries}
@@ -55,7 +54,7 @@ unfolding machine_after answers_to
 agrees l max (made m g) =
     let f : Fresh l max m = g.1 in
     record { verdict = g.0; chain = f.chain; max_retry = f.max_retry; machine = f.machine; answers = refl; valid = f.valid }
-agrees l max (called {ks = ks} {rs = rs} {m = m} k r f valid g) =
+agrees l max (called {ks = ks} {rs = rs} {m = m} k r f g) =
     let a : Agrees l max ks rs m = agrees l max f in
     let ch : List Component = entries_of l in
     let x : expected (chain_of m) m.max_retry (view m) k ≡ expected_after ch max ks k =
@@ -71,7 +70,7 @@ agrees l max (called {ks = ks} {rs = rs} {m = m} k r f valid g) =
       max_retry = g.max_retry ∙ a.max_retry;
       machine = g.machine ∙ ap (λ (y : Expected). y.machine) x;
       answers = λ i. record { number = number i; effect = effect i } ∷ rest i;
-      valid = g.valid;
+      valid = g.valid a.valid;
     }
 
 -- ---- The theorem

@@ -1,6 +1,5 @@
 -- The bound of 2 N + 1 effects is reached: the last of 01's ten rows, from power-on. Component 1 is Required and released,
 -- component 2 is Cascading and exhausted: its gate gives two effects, quiescing component 1 one, and the new walk two.
-use Rattle.std.specs.Prelude.{Ok}
 use mathlib.Core.Path.{◌≡◌, refl, sym, subst, ap, ◌∙◌}
 use mathlib.Core.List.{List, [], ◌∷◌}
 use Prim.Native.Nat.{◌+◌, ◌*◌}
@@ -18,7 +17,7 @@ use Rattle.cascade.specs.Cascade.{below, children_in, children_of, spread, casca
 use Rattle.holds.specs.Holds.{gates, gates_say}
 use Rattle.advance.specs.Advance.{isolated_ahead, quiet_says}
 use Rattle.rot.specs.Step.{step_of}
-use Rattle.settling.specs.declared.Machine.{Machine}
+use Rattle.settling.specs.declared.whole.Machine.{Machine}
 use Rattle.settling.specs.Settle.{turns, settle}
 use Rattle.settling.specs.declared.Reply.TheVariants.{Done}
 use Rattle.sm.specs.Calls.{begin_of, reply_of, start_of}

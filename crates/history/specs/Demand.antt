@@ -9,8 +9,8 @@ use Rattle.model.specs.declared.Event.TheVariants.{VerificationPassed}
 use Rattle.model.specs.declared.Effect.{Effect}
 use Rattle.model.specs.declared.Effect.TheVariants.{VerifyFirmware, ReleaseReset, RecoverComponent}
 use Rattle.chain.specs.Links.{policy_at}
-use Rattle.settling.specs.declared.Machine.{Machine}
-use Rattle.settling.specs.View.{view, chain_of, Valid}
+use Rattle.settling.specs.declared.whole.Machine.{Machine}
+use Rattle.settling.specs.View.{view, chain_of}
 use Rattle.sm.specs.declared.Called.{Called}
 use Rattle.sm.specs.Gives.{NewGives, number_of, CallGives}
 use Rattle.history.specs.History.{Call, expected, Answered, answers_to, Item, HandedOut, log_of, settling, settled, effects_of, Reported, LatestVerified}
@@ -22,11 +22,11 @@ abbrev pub answered : Called → Answered
 answered r = record { number = number_of r.answer; effect = r.effect }
 
 -- A history: from the machine that new gives for an accepted list, each call takes the machine that the one before
--- returned, after a refusal too. Of the code it cites what the contracts of new, begin and reply ensure, and nothing else;
--- `Valid` is the calls' one premise, and each call gives it to the next.
+-- returned, after a refusal too. Of the code it cites what the contracts of new, begin and reply ensure, and nothing else: the
+-- calls ask for nothing.
 pub data Follows (l : ComponentList) (max : ℕ) : List Call → List Answered → Machine → Type 0 where
   made : (m : Machine) → NewGives l max (Ok m) → Follows l max [] [] m
-  called : {ks : List Call} {rs : List Answered} {m : Machine} (k : Call) (r : Called) → Follows l max ks rs m → Valid m
+  called : {ks : List Call} {rs : List Answered} {m : Machine} (k : Call) (r : Called) → Follows l max ks rs m
       → CallGives m (expected (chain_of m) m.max_retry (view m) k) r → Follows l max (k ∷ ks) (answered r ∷ rs) r.machine
 
 -- ---- The five parts

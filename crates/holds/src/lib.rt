@@ -1,10 +1,9 @@
 // Holds: the gate at one position, and at each position of an order.
 #![tactic(auto)]
 
-ghost use Rattle.std.specs.Prelude.{ℕ, ◌≤◌, ◌<◌, get_or};
+ghost use Rattle.std.specs.Prelude.{ℕ, ◌≤◌, ◌<◌, length, get_or};
 ghost use Rattle.chain.specs.Tables.{entries, size};
 ghost use Rattle.cascade.specs.Order.{listed};
-ghost use Rattle.machine.specs.View.{Fit};
 ghost use Rattle.machine.specs.Acts.{Does};
 ghost use Rattle.holds.specs.Acts.{holding, gating, gating_all};
 
@@ -17,7 +16,7 @@ use store::Status;
 // The component at p is isolated: it is in the set, its flags are off, and its retry count is kept. The length of the
 // chain, n, is there for the contract alone.
 fn hold(mut w: Work, n: usize, p: usize) -> Work
-    requires { (n ≤ 255) × (p < n) × (Fit n w.rot) }
+    requires { (n ≤ 255) × (p < n) }
     ensures { Does n w (holding p) result }
 {
     w.rot.isolated = w.rot.isolated.insert(p);
@@ -32,7 +31,7 @@ fn hold(mut w: Work, n: usize, p: usize) -> Work
 // The gate at p: the component is held in reset, and reported. One that is isolated already was reported then, so a
 // cascade that comes to it again says nothing.
 pub fn gate_one(chain: Chain, w: Work, p: usize) -> Work
-    requires { (p < size chain) × (Fit (size chain) w.rot) }
+    requires { p < size chain }
     ensures { Does (size chain) w (gating (entries chain) p) result }
 {
     let n = chain.count();
@@ -48,10 +47,10 @@ pub fn gate_one(chain: Chain, w: Work, p: usize) -> Work
 
 // The gate at each position of an order in turn.
 pub fn gate_all(chain: Chain, mut w: Work, order: Order) -> Work
-    requires { (Fit (size chain) w.rot) × ((k : ℕ) → k < order.count → get_or order.at k 0 < size chain) × (order.count ≤ 255) }
+    requires { (k : ℕ) → k < length (listed order) → get_or (listed order) k 0 < size chain }
     ensures { Does (size chain) w (gating_all (entries chain) (listed order)) result }
 {
-    for p in &order.at[..order.count] {
+    for p in order.places.as_slice() {
         w = gate_one(chain, w, *p as usize);
     }
     w

@@ -6,6 +6,7 @@
 ghost use Rattle.std.specs.Prelude.{◌≡◌, true, false, [], ◌∷◌, ◌≤◌, get_or, set, replicate};
 ghost use Rattle.isolated.specs.Flags.{flags, next_free, trues};
 
+// Four words in fixed memory: the form that document 01 names.
 #[derive(Clone, Copy)]
 pub struct Isolated {
     pub words: [u64; 4],

@@ -11,3 +11,7 @@ putting s p c = stay (statuses_are (set c.statuses p (stored s (status_at c.stat
 -- f of what w was is what r is, for a chain of n components.
 abbrev pub Does : ℕ → Work → (Core → Out) → Work → Type 0
 Does n w f r = Ran n w (f (core_of n w)) r
+
+-- The same whatever the number of components: for a function that the chain has no part in.
+abbrev pub DoesAll : Work → (Core → Out) → Work → Type 0
+DoesAll w f r = (n : ℕ) → Does n w f r

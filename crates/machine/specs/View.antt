@@ -78,14 +78,8 @@ new_rot = record { statuses = replicate 255 record { retry = 0; awaiting_boot = 
 abbrev pub state_is : State → Work → Work
 state_is s w = record { state = s; rot = w.rot; sink = w.sink }
 
-abbrev pub rot_is : Rot → Work → Work
-rot_is r w = record { state = w.state; rot = r; sink = w.sink }
-
 abbrev pub sink_is : Sink → Work → Work
 sink_is s w = record { state = w.state; rot = w.rot; sink = s }
-
-abbrev pub open_is : Bool → Work → Work
-open_is b w = rot_is (record { statuses = w.rot.statuses; isolated = w.rot.isolated; cursor = w.rot.cursor; pending_commit = b }) w
 
 -- A sink after some effects more.
 unfoldable pub says : Sink → List Effect → Sink
@@ -97,8 +91,8 @@ pub record Fit (n : ℕ) (r : Rot) : Type 0 where
   pub clean : drop n (flags r.isolated) ≡ replicate (256 - n) false
   pub low : r.cursor ≤ n
 
--- r is what the outcome o makes of w: the machine, the effects behind those before, and it still fits.
+-- r is what the outcome o makes of w: the machine, the effects behind those before, and where w fits r fits.
 pub record Ran (n : ℕ) (w : Work) (o : Out) (r : Work) : Type 0 where
   pub core : core_of n r ≡ o.core
   pub sink : r.sink ≡ says w.sink o.said
-  pub fit : Fit n r.rot
+  pub fit : Fit n w.rot → Fit n r.rot

@@ -5,7 +5,7 @@ ghost use Rattle.std.specs.Prelude.{◌≡◌, ◌≤◌, ◌<◌};
 ghost use Rattle.isolated.specs.Flags.{flags, flags_of};
 ghost use Rattle.store.specs.Sink.{with_effect};
 ghost use Rattle.machine.specs.Status.{status_at, iso};
-ghost use Rattle.machine.specs.View.{status_of, statuses_of, state_is, rot_is, sink_is, open_is, new_rot, Fit};
+ghost use Rattle.machine.specs.View.{status_of, statuses_of, state_is, sink_is, new_rot};
 ghost use Rattle.machine.specs.Acts.{putting, Does};
 
 use isolated::Isolated;
@@ -34,7 +34,8 @@ const UNSET: Status = Status {
     released: false,
 };
 
-// What the machine keeps between events, beside its state.
+// What the machine keeps between events, beside its state: a status for each place that a chain may have, in fixed memory, since
+// no call uses the heap.
 #[derive(Clone, Copy)]
 pub struct Rot {
     pub statuses: [Status; 255],
@@ -64,7 +65,8 @@ impl Rot {
     }
 }
 
-// A machine at work on one event: the effects so far are in the sink.
+// A machine at work on one event: the effects so far are in the sink. The chain goes beside it: a struct of both would hand the
+// chain back with each change, though it never changes.
 #[derive(Clone, Copy)]
 pub struct Work {
     pub state: State,
@@ -122,26 +124,10 @@ pub fn in_state(mut w: Work, state: State) -> Work
     w
 }
 
-// What is kept changes as a whole.
-pub fn with_rot(mut w: Work, rot: Rot) -> Work
-    ensures { result ≡ rot_is rot w }
-{
-    w.rot = rot;
-    w
-}
-
-// Opens or closes the window in which an update waits for its commit.
-pub fn with_window(mut w: Work, open: bool) -> Work
-    ensures { result ≡ open_is «open» w }
-{
-    w.rot.pending_commit = open;
-    w
-}
-
 // What is stored of the component at p. Whether it is isolated is not stored, and stays as it is. The length of the
 // chain, n, is there for the contract alone.
 pub fn put_status(mut w: Work, n: usize, p: usize, s: Status) -> Work
-    requires { (n ≤ 255) × (p < n) × (Fit n w.rot) }
+    requires { (n ≤ 255) × (p < n) }
     ensures { Does n w (putting s p) result }
 {
     w.rot.statuses[p] = s;

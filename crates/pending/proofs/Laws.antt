@@ -3,6 +3,7 @@ use Rattle.std.proofs.Common.{◌≡◌, ℕ, zero, suc, ◌+◌, ◌-◌, ◌<�
 use Rattle.std.proofs.lemmas.List.{take-append-le, take-take, take_min}
 use Rattle.model.specs.declared.Event.{Event}
 use Rattle.model.specs.declared.Event.TheVariants.{EffectFailed}
+use Rattle.bounded.proofs.Laws.{items-length}
 use Rattle.pending.specs.declared.Pending.{Pending}
 use Rattle.pending.specs.Queue.{events, first_of, rest}
 
@@ -15,9 +16,9 @@ pub first_one : (es : List Event) (e : Event) → first_of es ≡ Some e → es 
 first_one [] e h = cc
 first_one (x ∷ es) e h = cc
 
-pub events-length : (q : Pending) → length q.entries ≡ 8 → length (events q) ≡ min q.len 8
+pub events-length : (q : Pending) → length q.entries.items ≡ 8 → length (events q) ≡ min q.entries.len 8
 unfolding events
-events-length q full = length-take q.len q.entries ∙ ap (min q.len) full
+events-length q full = items-length q.entries full
 
 -- What was moved up by one place, without the last: what was queued, without its front.
 pub popped : (e : List Event) (len n : ℕ) → length e ≡ 8 → n ≡ length (take len e) → 0 < n → take (n - 1) (drop 1 e ++ take 1 e) ≡ rest (take len e)

@@ -4,13 +4,13 @@
 ghost use Rattle.std.specs.Prelude.{◌≡◌, ◌≤◌, length};
 ghost use Rattle.pending.specs.Queue.{events, no_events, first_of, rest, at_back, latched, emits};
 
+use bounded::Bounded;
 use model::{Effect, Event};
 
-// The events are those in the first `len` places, the front first. What stands in the other places means nothing.
+// The events, the front first.
 #[derive(Clone, Copy)]
 pub struct Pending {
-    pub entries: [Event; 8],
-    pub len: usize,
+    pub entries: Bounded<Event, 8>,
 }
 
 // The event of an Emit, which is queued and never handed out; any other effect has none.
@@ -30,8 +30,7 @@ impl Pending {
         ensures { result ≡ no_events }
     {
         Pending {
-            entries: [Event::EffectFailed; 8],
-            len: 0,
+            entries: Bounded::new(Event::EffectFailed),
         }
     }
 
@@ -39,17 +38,17 @@ impl Pending {
     pub fn count(self) -> usize
         ensures { (result ≡ length (events self)) × (result ≤ 8) }
     {
-        self.len.min(8)
+        self.entries.count()
     }
 
     // The event to be settled next.
     pub fn front(self) -> Option<Event>
         ensures { result ≡ first_of (events self) }
     {
-        if self.len == 0 {
+        if self.count() == 0 {
             None
         } else {
-            Some(self.entries[0])
+            Some(self.entries.items[0])
         }
     }
 
@@ -61,8 +60,8 @@ impl Pending {
         if n == 0 {
             return self;
         }
-        self.entries.rotate_left(1);
-        self.len = n - 1;
+        self.entries.items.rotate_left(1);
+        self.entries.len = n - 1;
         self
     }
 
@@ -70,11 +69,7 @@ impl Pending {
     pub fn push_back(mut self, event: Event) -> Self
         ensures { events result ≡ at_back event (events self) }
     {
-        let n = self.count();
-        if n < 8 {
-            self.entries[n] = event;
-            self.len = n + 1;
-        }
+        self.entries.push(event);
         self
     }
 
@@ -83,9 +78,9 @@ impl Pending {
         ensures { events result ≡ latched (events self) }
     {
         let n = self.count();
-        self.entries.rotate_right(1);
-        self.entries[0] = Event::EffectFailed;
-        self.len = (n + 1).min(8);
+        self.entries.items.rotate_right(1);
+        self.entries.items[0] = Event::EffectFailed;
+        self.entries.len = (n + 1).min(8);
         self
     }
 }

@@ -8,6 +8,7 @@ use sheet::Answer;
 use text::Line;
 
 // A transcript buffer of 65,536 bytes with room for one line behind it, and how many of the bytes are printed.
+// No `Bounded`: a part of it is lent to `run`, and the array stands alone for that.
 #[derive(Clone, Copy)]
 pub struct Printout {
     pub bytes: [u8; 65600],

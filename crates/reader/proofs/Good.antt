@@ -12,14 +12,7 @@ use Rattle.lines.specs.declared.Row.{Row}
 use Rattle.reader.specs.declared.Part.{Part}
 use Rattle.reader.specs.declared.Part.TheVariants.{Opening}
 use Rattle.reader.specs.declared.Sheet.{Sheet}
-use Rattle.reader.specs.Read.{rows_in, part_after, is_wrong, bad_from, bad_line, retry_in, cards_in, pushed_all, Whole}
-
-unfoldable pub good_from : Part → List (Option Row) → List (Option Row)
-good_from part [] = []
-good_from part (r ∷ rs) = pick (is_wrong (part_after part r)) [] (r ∷ good_from (part_after part r) rs)
-
-unfoldable pub good_in : List ℕ → List (Option Row)
-good_in s = good_from Opening (rows_in s)
+use Rattle.reader.specs.Read.{rows_in, part_after, is_wrong, bad_from, bad_line, good_from, good_in, retry_in, cards_in, pushed_all, Whole}
 
 good-from : (part : Part) (n : ℕ) (rs : List (Option Row)) → 0 < n → bad_from part n rs ≡ 0 → good_from part rs ≡ rs
 unfolding bad_from good_from

@@ -1,4 +1,5 @@
--- What is left of a sheet gives the whole answer: the first bad line, max_retry and the components, from a place on.
+-- What is left of a sheet gives the whole answer: the first bad line, and max_retry and the components of the lines before it,
+-- from a place on.
 use Rattle.std.specs.Prelude.{Option, None, Some}
 use mathlib.Core.Path.{◌≡◌, refl, sym, ap, ◌∙◌}
 use mathlib.Core.Bool.{Bool, true, false}
@@ -14,8 +15,9 @@ use Rattle.lines.specs.declared.Row.TheVariants.{Retry, Card, Begin, Answer}
 use Rattle.reader.specs.declared.Part.{Part}
 use Rattle.reader.specs.declared.Part.TheVariants.{Opening}
 use Rattle.reader.specs.declared.Next.{Next}
-use Rattle.reader.specs.Read.{rows_in, part_after, is_wrong, is_opening, bad_from, bad_line, retry_after, retry_from, retry_in, card_before, cards_of, cards_in, pushed_all, Reads, Whole, Bad}
+use Rattle.reader.specs.Read.{rows_in, part_after, is_wrong, is_opening, bad_from, bad_line, good_from, good_in, retry_after, retry_from, retry_in, card_before, cards_of, cards_in, pushed_all, Reads, Whole, Bad}
 use Rattle.reader.proofs.Rows.{rows-past}
+use Rattle.reader.proofs.Good.{good-all}
 
 -- Row by row.
 pub retry-next : (n : ℕ) (r : Option Row) (rs : List (Option Row)) → retry_from n (r ∷ rs) ≡ retry_from (retry_after n r) rs
@@ -48,17 +50,34 @@ pub pushed-end : (l : ComponentList) → pushed_all l (cards_of []) ≡ l
 unfolding pushed_all cards_of
 pushed-end l = refl
 
+pub good-next : (part : Part) (r : Option Row) (rs : List (Option Row))
+    → good_from part (r ∷ rs) ≡ pick (is_wrong (part_after part r)) [] (r ∷ good_from (part_after part r) rs)
+unfolding good_from
+good-next part r rs = refl
+
+pub good-end : (part : Part) → good_from part [] ≡ []
+unfolding good_from
+good-end part = refl
+
 -- The answers of the sheet s are those of what stands from `at` on, with these told before.
 pub record Left (s : List ℕ) (at line : ℕ) (part : Part) (n : ℕ) (l : ComponentList) : Type 0 where
   pub bad : bad_line s ≡ bad_from part line (rows_in (drop at s))
-  pub retry : retry_in s ≡ retry_from n (rows_in (drop at s))
-  pub list : pushed_all no_entries (cards_in s) ≡ pushed_all l (cards_of (rows_in (drop at s)))
+  pub retry : retry_from 0 (good_in s) ≡ retry_from n (good_from part (rows_in (drop at s)))
+  pub list : pushed_all no_entries (cards_of (good_in s)) ≡ pushed_all l (cards_of (good_from part (rows_in (drop at s))))
 
 pub left-all : (s : List ℕ) → Left s 0 1 Opening 0 no_entries
-unfolding bad_line retry_in cards_in
+unfolding bad_line good_in
 left-all s = record { bad = refl; retry = refl; list = refl }
 
 module _ (s : List ℕ) (at line : ℕ) (part : Part) (n : ℕ) (l : ComponentList) (left : Left s at line part n l) where
+  -- No good row is left: what was told before is the answer.
+  module _ (g : good_from part (rows_in (drop at s)) ≡ []) where
+    told-retry : n ≡ retry_from 0 (good_in s)
+    told-retry = sym (left.retry ∙ ap (retry_from n) g ∙ retry-end n)
+
+    told-list : l ≡ pushed_all no_entries (cards_of (good_in s))
+    told-list = sym (left.list ∙ ap (λ (x : List (Option Row)). pushed_all l (cards_of x)) g ∙ pushed-end l)
+
   -- The line at `at`.
   module _ (r : Next) (reads : Reads s at r) (q : Part) (e : q ≡ part_after part r.row) where
     bad-by : bad_line s ≡ pick (is_wrong q) line (bad_from q (suc line) (rows_in (drop r.after s)))
@@ -66,18 +85,32 @@ module _ (s : List ℕ) (at line : ℕ) (part : Part) (n : ℕ) (l : ComponentLi
         left.bad ∙ ap (bad_from part line) reads.row ∙ bad-next part line r.row _
         ∙ ap (λ (x : Part). pick (is_wrong x) line (bad_from x (suc line) (rows_in (drop r.after s)))) (sym e)
 
-    pub left-wrong : is_wrong q ≡ true → 0 < line → Bad s record { 0 = line }
-    left-wrong w h = record { line = sym (bad-by ∙ ap (λ (b : Bool). pick b line (bad_from q (suc line) (rows_in (drop r.after s)))) w); some = h }
+    good-by : good_from part (rows_in (drop at s)) ≡ pick (is_wrong q) [] (r.row ∷ good_from q (rows_in (drop r.after s)))
+    good-by =
+        ap (good_from part) reads.row ∙ good-next part r.row _
+        ∙ ap (λ (x : Part). pick (is_wrong x) [] (r.row ∷ good_from x (rows_in (drop r.after s)))) (sym e)
+
+    pub left-wrong : is_wrong q ≡ true → 0 < line → Bad s record { line = line; before = record { max_retry = n; list = l } }
+    left-wrong w h =
+        let g = good-by ∙ ap (λ (b : Bool). pick b [] (r.row ∷ good_from q (rows_in (drop r.after s)))) w in
+        record {
+          line = sym (bad-by ∙ ap (λ (b : Bool). pick b line (bad_from q (suc line) (rows_in (drop r.after s)))) w);
+          some = h;
+          retry = told-retry g;
+          list = told-list g;
+        }
 
     pub left-next : is_wrong q ≡ false → (k : ℕ) → k ≡ retry_after n r.row → (m : ComponentList) → m ≡ pushed_all l (card_before r.row [])
         → Left s r.after (line + 1) q k m
     left-next w k p m g =
-        let rest = rows_in (drop r.after s) in
+        let after = rows_in (drop r.after s) in
+        let rest = good_from q after in
+        let good : good_from part (rows_in (drop at s)) ≡ r.row ∷ rest = good-by ∙ ap (λ (b : Bool). pick b [] (r.row ∷ rest)) w in
         record {
-          bad = bad-by ∙ ap (λ (b : Bool). pick b line (bad_from q (suc line) rest)) w ∙ ap (λ (i : ℕ). bad_from q i rest) (sym (add-one line));
-          retry = left.retry ∙ ap (retry_from n) reads.row ∙ retry-next n r.row rest ∙ ap (λ (i : ℕ). retry_from i rest) (sym p);
+          bad = bad-by ∙ ap (λ (b : Bool). pick b line (bad_from q (suc line) after)) w ∙ ap (λ (i : ℕ). bad_from q i after) (sym (add-one line));
+          retry = left.retry ∙ ap (retry_from n) good ∙ retry-next n r.row rest ∙ ap (λ (i : ℕ). retry_from i rest) (sym p);
           list =
-              left.list ∙ ap (λ (x : List (Option Row)). pushed_all l (cards_of x)) reads.row ∙ pushed-next l r.row rest
+              left.list ∙ ap (λ (x : List (Option Row)). pushed_all l (cards_of x)) good ∙ pushed-next l r.row rest
               ∙ ap (λ (x : ComponentList). pushed_all x (cards_of rest)) (sym g);
         }
 
@@ -89,13 +122,26 @@ module _ (s : List ℕ) (at line : ℕ) (part : Part) (n : ℕ) (l : ComponentLi
     end_by : bad_line s ≡ pick (is_opening part) line 0
     end_by = left.bad ∙ ap (bad_from part line) none ∙ bad-end part line
 
-    pub left-opening : is_opening part ≡ true → 0 < line → Bad s record { 0 = line }
-    left-opening o f = record { line = sym (end_by ∙ ap (λ (b : Bool). pick b line 0) o); some = f }
+    none-good : good_from part (rows_in (drop at s)) ≡ []
+    none-good = ap (good_from part) none ∙ good-end part
 
-    pub left_end : is_opening part ≡ false → Whole s record { max_retry = n; list = l }
-    left_end o =
+    pub left-opening : is_opening part ≡ true → 0 < line → Bad s record { line = line; before = record { max_retry = n; list = l } }
+    left-opening o f =
         record {
-          good = end_by ∙ ap (λ (b : Bool). pick b line 0) o;
-          retry = sym (left.retry ∙ ap (retry_from n) none ∙ retry-end n);
-          list = sym (left.list ∙ ap (λ (x : List (Option Row)). pushed_all l (cards_of x)) none ∙ pushed-end l);
+          line = sym (end_by ∙ ap (λ (b : Bool). pick b line 0) o);
+          some = f;
+          retry = told-retry none-good;
+          list = told-list none-good;
+        }
+
+    -- No line was bad, so that the lines before it are all of them.
+    pub left_end : is_opening part ≡ false → Whole s record { max_retry = n; list = l }
+    unfolding retry_in cards_in
+    left_end o =
+        let good = end_by ∙ ap (λ (b : Bool). pick b line 0) o in
+        let all = good-all s good in
+        record {
+          good = good;
+          retry = told-retry none-good ∙ ap (retry_from 0) all;
+          list = told-list none-good ∙ ap (λ (x : List (Option Row)). pushed_all no_entries (cards_of x)) all;
         }

@@ -12,7 +12,7 @@ use Rattle.reader.specs.declared.Part.{Part}
 use Rattle.reader.specs.declared.Part.TheVariants.{Opening, Cards, Script, Wrong}
 use Rattle.reader.specs.declared.Next.{Next}
 use Rattle.reader.specs.declared.Sheet.{Sheet}
-use Rattle.reader.specs.declared.BadLine.{BadLine}
+use Rattle.reader.specs.declared.BadSheet.{BadSheet}
 use Rattle.reader.specs.Grammar.{Order, Begins, Answers, Content}
 
 -- The pieces of a text between bytes 10: one more than there are such bytes.
@@ -74,6 +74,14 @@ bad_from part n (r ∷ rs) = pick (is_wrong (part_after part r)) n (bad_from (pa
 unfoldable pub bad_line : List ℕ → ℕ
 bad_line s = bad_from Opening 1 (rows_in s)
 
+-- The rows before the first bad line: all of them, where there is none.
+unfoldable pub good_from : Part → List (Option Row) → List (Option Row)
+good_from part [] = []
+good_from part (r ∷ rs) = pick (is_wrong (part_after part r)) [] (r ∷ good_from (part_after part r) rs)
+
+unfoldable pub good_in : List ℕ → List (Option Row)
+good_in s = good_from Opening (rows_in s)
+
 -- max_retry: the number of the B line.
 abbrev pub retry_after : ℕ → Option Row → ℕ
 retry_after n (Some (Retry k)) = k
@@ -88,14 +96,6 @@ retry_from n (r ∷ rs) = retry_from (retry_after n r) rs
 
 unfoldable pub retry_in : List ℕ → ℕ
 retry_in s = retry_from 0 (rows_in s)
-
--- A C line.
-abbrev pub is_card : Option Row → Bool
-is_card (Some (Retry n)) = false
-is_card (Some (Card c)) = true
-is_card (Some (Begin e)) = false
-is_card (Some (Answer a)) = false
-is_card None = false
 
 -- The components of the C lines.
 abbrev pub card_before : Option Row → List Component → List Component
@@ -150,12 +150,14 @@ pub record Whole (s : List ℕ) (r : Sheet) : Type 0 where
   pub retry : r.max_retry ≡ retry_in s
   pub list : r.list ≡ pushed_all no_entries (cards_in s)
 
--- The line that is refused is the first bad one.
-pub record Bad (s : List ℕ) (b : BadLine) : Type 0 where
-  pub line : b.0 ≡ bad_line s
-  pub some : 0 < b.0
+-- The line that is refused is the first bad one. max_retry and the components are those of the lines before it.
+pub record Bad (s : List ℕ) (b : BadSheet) : Type 0 where
+  pub line : b.line ≡ bad_line s
+  pub some : 0 < b.line
+  pub retry : b.before.max_retry ≡ retry_from 0 (good_in s)
+  pub list : b.before.list ≡ pushed_all no_entries (cards_of (good_in s))
 
--- What the sheet says, or its first bad line.
-abbrev pub ReadAs : List ℕ → Result Sheet BadLine → Type 0
+-- What the sheet says, or its first bad line and what the lines before it say.
+abbrev pub ReadAs : List ℕ → Result Sheet BadSheet → Type 0
 ReadAs s (Ok r) = Whole s r
 ReadAs s (Err b) = Bad s b

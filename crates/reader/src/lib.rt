@@ -31,9 +31,12 @@ pub struct Sheet {
     pub list: ComponentList,
 }
 
-// The first line that is bad, counted from 1.
-#[derive(Clone, Copy, Debug, PartialEq, Eq)]
-pub struct BadLine(pub usize);
+// The first line that is bad, counted from 1, and what the lines before it say.
+#[derive(Clone, Copy)]
+pub struct BadSheet {
+    pub line: usize,
+    pub before: Sheet,
+}
 
 // The line at a place of the sheet. A line that is not ended is bad.
 pub fn next_line(sheet: &[u8], at: usize) -> Next
@@ -66,7 +69,7 @@ fn part_after(part: Part, row: Option<Row>) -> Part
 }
 
 // Question 1 is put to every line, and the B and C lines are kept. Other lines leave the list alone, which is long to copy.
-pub fn read_sheet(sheet: &[u8]) -> Result<Sheet, BadLine>
+pub fn read_sheet(sheet: &[u8]) -> Result<Sheet, BadSheet>
     ensures { ReadAs sheet.now result }
 {
     let mut at = 0;
@@ -79,7 +82,10 @@ pub fn read_sheet(sheet: &[u8]) -> Result<Sheet, BadLine>
         let next = next_line(sheet, at);
         part = part_after(part, next.row);
         if part == Part::Wrong {
-            return Err(BadLine(line));
+            return Err(BadSheet {
+                line,
+                before: Sheet { max_retry, list },
+            });
         }
         match next.row {
             Some(Row::Retry(n)) => max_retry = n,
@@ -90,7 +96,10 @@ pub fn read_sheet(sheet: &[u8]) -> Result<Sheet, BadLine>
         line += 1;
     }
     if part == Part::Opening {
-        return Err(BadLine(line));
+        return Err(BadSheet {
+            line,
+            before: Sheet { max_retry, list },
+        });
     }
     Ok(Sheet { max_retry, list })
 }

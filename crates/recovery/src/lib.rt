@@ -7,16 +7,15 @@ ghost use Rattle.chain.specs.Tables.{entries, size};
 ghost use Rattle.machine.specs.Status.{bump};
 ghost use Rattle.machine.specs.View.{stay};
 ghost use Rattle.machine.specs.Acts.{Does};
-ghost use Rattle.entry.specs.Premise.{Placed};
 ghost use Rattle.recovery.specs.Recovery.{retry_at, start_over, exhausted};
 ghost use Rattle.recovery.specs.Cases.{recovering, restored_in, unavailable_in};
 
-use chain::Chain;
+use chain::Member;
 use machine::Work;
 use model::{ComponentId, Effect, Event, State};
 use store::Status;
 
-// The component in recovery.
+// The component in recovery. Of its own, as `walks::waits_in` is: each reads one state.
 pub fn recovers_in(state: State) -> Option<ComponentId>
     ensures { result ≡ recovering state }
 {
@@ -26,39 +25,36 @@ pub fn recovers_in(state: State) -> Option<ComponentId>
     }
 }
 
-fn set_retry(chain: Chain, w: Work, id: ComponentId, p: usize, retry: u8) -> Work
-    requires { Placed chain w id p }
-    ensures { Does (size chain) w (λ c. stay (retry_at (entries chain) id retry c)) result }
+fn set_retry(member: Member, w: Work, retry: u8) -> Work
+    ensures { Does (size member.chain) w (λ c. stay (retry_at (entries member.chain) member.id retry c)) result }
 {
-    let n = chain.count();
-    let s = machine::status_at(w.rot, n, p);
+    let n = member.chain.count();
+    let s = machine::status_at(w.rot, n, member.place);
     let counted = Status {
         retry,
         awaiting_boot: s.awaiting_boot,
         released: s.released,
     };
-    machine::put_status(w, n, p, counted)
+    machine::put_status(w, n, member.place, counted)
 }
 
-fn start_over(chain: Chain, w: Work, id: ComponentId, p: usize) -> Work
-    requires { Placed chain w id p }
-    ensures { Does (size chain) w (start_over (entries chain) id) result }
+fn start_over(member: Member, w: Work) -> Work
+    ensures { Does (size member.chain) w (start_over (entries member.chain) member.id) result }
 {
-    let v = set_retry(chain, w, id, p, 0);
-    entry::enter_walk(chain, v)
+    let v = set_retry(member, w, 0);
+    entry::enter_walk(member.chain, v)
 }
 
 // Recovery is over without success: a component that can be isolated is, and the rest boots. A Required one is reported and
 // RecoveryFailed is emitted, which locks once it is settled; until then the state is kept.
-fn exhaust_recovery(chain: Chain, w: Work, id: ComponentId, p: usize) -> Work
-    requires { Placed chain w id p }
-    ensures { Does (size chain) w (exhausted (entries chain) id) result }
+fn exhaust_recovery(member: Member, w: Work) -> Work
+    ensures { Does (size member.chain) w (exhausted (entries member.chain) member.id) result }
 {
-    if corruption::gates_failed(chain.policy_at(p)) {
-        let v = corruption::gate_by_policy(chain, w, p);
-        return start_over(chain, v, id, p);
+    if corruption::gates_failed(member.policy()) {
+        let v = corruption::gate_by_policy(member, w);
+        return start_over(member, v);
     }
-    let u = machine::say(w, Effect::ReportRecoveryFailed(id));
+    let u = machine::say(w, Effect::ReportRecoveryFailed(member.id));
     machine::say(u, Effect::Emit(Event::RecoveryFailed))
 }
 
@@ -70,41 +66,26 @@ fn bump_retry(retry: u8) -> u8
 }
 
 // Below the limit the component is tried again.
-pub fn restored(
-    chain: Chain,
-    max_retry: u8,
-    w: Work,
-    id: ComponentId,
-    p: usize,
-    target: Option<ComponentId>,
-) -> Work
-    requires { Placed chain w id p }
-    ensures { Does (size chain) w (restored_in (entries chain) max_retry id target) result }
+pub fn restored(member: Member, max_retry: u8, w: Work, target: Option<ComponentId>) -> Work
+    ensures { Does (size member.chain) w (restored_in (entries member.chain) max_retry member.id target) result }
 {
-    if target != Some(id) {
+    if target != Some(member.id) {
         return w;
     }
-    let s = machine::status_at(w.rot, chain.count(), p);
+    let s = machine::status_at(w.rot, member.chain.count(), member.place);
     let retry = bump_retry(s.retry);
-    let v = set_retry(chain, w, id, p, retry);
+    let v = set_retry(member, w, retry);
     if retry < max_retry {
-        return entry::enter_walk(chain, v);
+        return entry::enter_walk(member.chain, v);
     }
-    exhaust_recovery(chain, v, id, p)
+    exhaust_recovery(member, v)
 }
 
-pub fn recovery_unavailable(
-    chain: Chain,
-    w: Work,
-    id: ComponentId,
-    p: usize,
-    target: Option<ComponentId>,
-) -> Work
-    requires { Placed chain w id p }
-    ensures { Does (size chain) w (unavailable_in (entries chain) id target) result }
+pub fn recovery_unavailable(member: Member, w: Work, target: Option<ComponentId>) -> Work
+    ensures { Does (size member.chain) w (unavailable_in (entries member.chain) member.id target) result }
 {
-    if target != Some(id) {
+    if target != Some(member.id) {
         return w;
     }
-    exhaust_recovery(chain, w, id, p)
+    exhaust_recovery(member, w)
 }

@@ -23,4 +23,4 @@ pub record Stepped (c : Chain) (max : ℕ) (w : Work) (e : Event) (r : Work) : T
   pub effects : held r.sink ≡ (outcome c max w e).said
   pub count : r.sink.len ≡ length (outcome c max w e).said
   pub few : r.sink.len ≤ 2 * size c + 1
-  pub fit : Fit (size c) r.rot
+  pub fit : Fit (size c) w.rot → Fit (size c) r.rot

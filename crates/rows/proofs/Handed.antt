@@ -24,7 +24,7 @@ use Rattle.reader.proofs.Kept.{kept-cards, kept-verdict}
 use Rattle.driver.specs.Run.{Entry, Setting, Step, Progress, start_point, stopped, transcript, step_from, recorded, steps, to_do, run_from}
 use Rattle.driver.proofs.Going.{transcript-append}
 use Rattle.sheet.specs.Sheet.{chain_in, verdict_in, Outcome, check_of, progress_of, ended, run_of}
-use Rattle.history.specs.History.{Call, machine_after, answers_to, log_of, settled}
+use Rattle.history.specs.History.{Call, machine_after, answers_to, log_of}
 use Rattle.history.specs.Demand.{Demand3}
 use Rattle.history.proofs.Theorem.{demand-3}
 use Rattle.history.proofs.Exists.{not-empty}

@@ -18,7 +18,6 @@ use Rattle.rot.proofs.Bound.{step-length}
 use Rattle.settling.specs.declared.Reply.{Reply}
 use Rattle.settling.specs.declared.Reply.TheVariants.{Done, Then, Failed}
 use Rattle.settling.specs.Settle.{Model, waiting_is, left_is, enqueue, replied, hand_out, turn_by, turn_of}
-use Rattle.settling.proofs.Views.{never}
 use Rattle.sm.specs.Calls.{start_of}
 use Rattle.lines.specs.declared.Row.{Row}
 use Rattle.lines.specs.declared.Row.TheVariants.{Retry, Card, Begin, Answer}
@@ -140,7 +139,7 @@ module _ (s : Setting) (n255 : length s.chain ≤ 255) where
         let t : Step = step_from s p in
         pick_p (Enough k) (leb (length (transcript es) + length (transcript t.said)) room)
         (λ f. record { machine = step_fits p h; less = λ on. omega (arith, l, step_less s p (step_fits p h).few on) })
-        (λ f. record { machine = step_fits p h; less = λ on. never on })
+        (λ f. record { machine = step_fits p h; less = λ on. absurd cc })
 
     none_left : (b : Bool) (n : ℕ) → (b ≡ true → n < 0) → b ≡ false
     none_left true n h = absurd (omega (arith, h refl))

@@ -6,7 +6,7 @@ use Rattle.model.specs.Vocabulary.{pick}
 use Rattle.model.specs.declared.Component.{Component}
 use Rattle.model.specs.declared.Effect.{Effect}
 use Rattle.components.specs.Chain.{no_entries}
-use Rattle.settling.specs.declared.Machine.{Machine}
+use Rattle.settling.specs.declared.whole.Machine.{Machine}
 use Rattle.settling.specs.declared.Reply.{Reply}
 use Rattle.settling.specs.declared.Reply.TheVariants.{Done}
 use Rattle.settling.specs.Settle.{Model}

@@ -10,9 +10,9 @@ use lib.ListN.{length, length-drop, length-take}
 use Rattle.model.specs.declared.Component.{Component}
 use Rattle.chain.specs.Tables.{entries}
 use Rattle.store.specs.Sink.{held}
-use Rattle.settling.specs.declared.Machine.{Machine}
+use Rattle.settling.specs.declared.whole.Machine.{Machine}
 use Rattle.settling.specs.Settle.{Model, Run, turn_by, turn_of, turned, turns, settle}
-use Rattle.settling.specs.View.{view, chain_of, Whole, Becomes}
+use Rattle.settling.specs.View.{view, chain_of, Becomes}
 use Rattle.settling.specs.Parts.{Rested}
 use Rattle.settling.proofs.Ends.{turns_next, settle-turns}
 use Rattle.settling.proofs.Views.{view-waiting, view-few}
@@ -21,16 +21,15 @@ use Rattle.settling.proofs.Views.{view-waiting, view-few}
 abbrev pub turning : Machine → ℕ → Model
 turning m n = (turns (chain_of m) m.max_retry n record { machine = view m; settled = [] }).machine
 
-pub turned_none : (m : Machine) → Whole m → Becomes m (turning m 0) m
+pub turned_none : (m : Machine) → Becomes m (turning m 0) m
 unfolding turns
-turned_none m w = record { machine = refl; chain = refl; max_retry = refl; whole = w }
+turned_none m = record { machine = refl; chain = refl; max_retry = refl }
 
 pub turned_more : (m v r : Machine) (n : ℕ) → Becomes m (turning m n) v → Becomes v (turn_of (chain_of v) v.max_retry (view v)) r → Becomes m (turning m (n + 1)) r
 turned_more m v r n a b = record {
   machine = b.machine ∙ (λ j. turn_of (entries (a.chain j)) (a.max_retry j) (a.machine j)) ∙ sym (ap (λ (k : Run). k.machine) (turns_next (chain_of m) m.max_retry n record { machine = view m; settled = [] })) ∙ ap (turning m) (sym (add-one n));
   chain = b.chain ∙ a.chain;
   max_retry = b.max_retry ∙ a.max_retry;
-  whole = b.whole;
 }
 
 module _ (ch : List Component) (max : ℕ) where
@@ -47,15 +46,15 @@ module _ (ch : List Component) (max : ℕ) where
   fixed_from (suc n) (suc k) r h l = fixed_from n k (turned ch max r) h (omega arith)
 
 -- At most 512 effects are left, so that 521 turns are enough.
-left-few : (m : Machine) → Whole m → length (view m).left ≤ 512
+left-few : (m : Machine) → length (view m).left ≤ 512
 unfolding view held
-left-few m w = omega (arith, w.room, length-drop m.dispatch.next (held m.work.sink), length-take m.work.sink.len m.work.sink.effects)
+left-few m = omega (arith, m.room, length-drop m.dispatch.next (held m.work.sink), length-take m.work.sink.len m.work.sink.effects)
 
 -- While an effect waits, no number of turns changes anything.
-enough-by : (m : Machine) → Whole m → (w : Option Effect) → m.dispatch.waiting ≡ w → turning m 521 ≡ (settle (chain_of m) m.max_retry (view m)).machine
+enough-by : (m : Machine) (w : Option Effect) → m.dispatch.waiting ≡ w → turning m 521 ≡ (settle (chain_of m) m.max_retry (view m)).machine
 unfolding settle
-enough-by m w None h = ap (λ (r : Run). r.machine) (settle-turns (chain_of m) m.max_retry (view m) (view-waiting m ∙ h) (view-few m w) 521 (omega (arith, left-few m w)))
-enough-by m w (Some x) h =
+enough-by m None h = ap (λ (r : Run). r.machine) (settle-turns (chain_of m) m.max_retry (view m) (view-waiting m ∙ h) (view-few m) 521 (omega (arith, left-few m)))
+enough-by m (Some x) h =
     let ch = chain_of m in
     let max = m.max_retry in
     let v = view m in
@@ -63,15 +62,14 @@ enough-by m w (Some x) h =
     let still : turn_of ch max v ≡ v = ap (λ (u : Option Effect). turn_by ch max v u v.left v.queue) (view-waiting m ∙ h) in
     fixed ch max 521 start still ∙ sym (fixed ch max (length v.left + 9) start still)
 
-pub turned-enough : (m : Machine) → Whole m → turning m 521 ≡ (settle (chain_of m) m.max_retry (view m)).machine
-turned-enough m w = enough-by m w m.dispatch.waiting refl
+pub turned-enough : (m : Machine) → turning m 521 ≡ (settle (chain_of m) m.max_retry (view m)).machine
+turned-enough m = enough-by m m.dispatch.waiting refl
 
-pub turned-rested : (m v : Machine) (n : ℕ) → Whole m → n ≤ 521 → Becomes m (turning m n) v → Rested v → Becomes m (settle (chain_of m) m.max_retry (view m)).machine v
-turned-rested m v n w l b s =
+pub turned-rested : (m v : Machine) (n : ℕ) → n ≤ 521 → Becomes m (turning m n) v → Rested v → Becomes m (settle (chain_of m) m.max_retry (view m)).machine v
+turned-rested m v n l b s =
     let still : turn_of (chain_of m) m.max_retry (turning m n) ≡ turning m n = (λ j. turn_of (entries (sym b.chain j)) (sym b.max_retry j) (sym b.machine j)) ∙ s ∙ b.machine in
     record {
-      machine = b.machine ∙ sym (fixed_from (chain_of m) m.max_retry n 521 record { machine = view m; settled = [] } still l) ∙ turned-enough m w;
+      machine = b.machine ∙ sym (fixed_from (chain_of m) m.max_retry n 521 record { machine = view m; settled = [] } still l) ∙ turned-enough m;
       chain = b.chain;
       max_retry = b.max_retry;
-      whole = b.whole;
     }

@@ -4,7 +4,7 @@ use Rattle.std.specs.Option.{is_some}
 use Prim.Native.Nat.{ℕ, ◌+◌, ◌<◌, ◌≤◌}
 use native.Mathlib.Numerals.{add-one}
 use native.Mathlib.Omega.{arith}
-use mathlib.Core.Path.{◌≡◌, refl, sym, ap, ◌∙◌, subst}
+use mathlib.Core.Path.{◌≡◌, refl, sym, ap, ◌∙◌}
 use mathlib.Core.Bool.{Bool, true, false}
 use mathlib.Core.List.{List, [], ◌∷◌, ◌++◌}
 use lib.ListN.{length, drop, length-take, drop_of_length-le}
@@ -15,32 +15,37 @@ use Rattle.model.specs.declared.Component.{Component}
 use Rattle.model.specs.declared.Event.{Event}
 use Rattle.model.specs.declared.Effect.{Effect}
 use Rattle.model.specs.declared.Effect.TheVariants.{LatchLockdown}
-use Rattle.chain.specs.declared.Chain.{Chain}
-use Rattle.chain.specs.Tables.{size}
+use Rattle.components.proofs.Accepted.{accepted-sound}
+use Rattle.chain.specs.Tables.{entries, size}
 use Rattle.store.specs.Sink.{held, effect_at}
 use Rattle.store.proofs.Laws.{at_held}
 use Rattle.pending.specs.declared.Pending.{Pending}
 use Rattle.pending.specs.Queue.{events, first_of, rest}
-use Rattle.machine.specs.declared.Work.{Work}
-use Rattle.machine.specs.View.{Core}
-use Rattle.entry.specs.Premise.{Sane}
+use Rattle.pending.proofs.Laws.{events-length}
+use Rattle.machine.specs.View.{Core, core_of}
 use Rattle.rot.specs.Stepped.{bare, Stepped}
 use Rattle.settling.specs.declared.Dispatch.{Dispatch}
-use Rattle.settling.specs.declared.Machine.{Machine}
+use Rattle.settling.specs.declared.whole.Machine.{Machine}
 use Rattle.settling.specs.Settle.{Model, left_is, queue_is, latch, fail, enqueue, front_taken, turn_by, turn_of, taken_by, next_event}
-use Rattle.settling.specs.View.{view, within, chain_of, Whole, Becomes}
+use Rattle.settling.specs.View.{view, within, chain_of, Short, Becomes}
 use Rattle.settling.specs.Parts.{Moves, Taken}
 use Rattle.settling.proofs.Ends.{Few}
 
--- A dispatch with another queue and another mark of failure; a machine with another dispatch, or another work too.
+-- A dispatch with another queue and another mark of failure.
 abbrev pub pends : Pending → Bool → Dispatch → Dispatch
 pends p b d = record { next = d.next; waiting = d.waiting; pending = p; failed = b }
 
-abbrev pub puts : Dispatch → Machine → Machine
-puts d m = record { chain = m.chain; max_retry = m.max_retry; work = m.work; dispatch = d }
+-- r is m with another dispatch and another work, or with another dispatch alone. Of what is known of every machine nothing
+-- is said here: the view does not read it.
+abbrev pub Works : Machine → Machine → Type 0
+Works m r = (r.chain ≡ m.chain) × (r.max_retry ≡ m.max_retry)
 
-abbrev pub works : Work → Dispatch → Machine → Machine
-works w d m = record { chain = m.chain; max_retry = m.max_retry; work = w; dispatch = d }
+abbrev pub Puts : Machine → Machine → Type 0
+Puts m r = Works m r × (r.work ≡ m.work)
+
+-- The array of a queue has eight places, so that at most 8 events are queued.
+pub short_of : (d : Dispatch) → length d.pending.entries.items ≡ 8 → Short d
+short_of d full = omega (arith, events-length d.pending full)
 
 -- The next effect of the batch, and those after it.
 abbrev pub next_effect : Machine → Effect
@@ -62,33 +67,37 @@ pub view-failed : (m : Machine) → (view m).failed ≡ m.dispatch.failed
 unfolding view
 view-failed m = refl
 
-pub view-few : (m : Machine) → Whole m → Few (view m)
+pub view-few : (m : Machine) → Few (view m)
 unfolding view
-view-few m w = w.few
+view-few m = m.few
 
--- What is read in the same way is whole in the same way.
+-- What is read in the same way, and two such changes in a row.
 pub becomes-as : {m r : Machine} {x y : Model} → Becomes m x r → x ≡ y → Becomes m y r
-becomes-as b e = record { machine = b.machine ∙ e; chain = b.chain; max_retry = b.max_retry; whole = b.whole }
+becomes-as b e = record { machine = b.machine ∙ e; chain = b.chain; max_retry = b.max_retry }
 
 pub becomes-then : {m v r : Machine} {x : Model} (f : Model → Model) → Becomes m x v → Becomes v (f (view v)) r → Becomes m (f x) r
-becomes-then f a b = record { machine = b.machine ∙ ap f a.machine; chain = b.chain ∙ a.chain; max_retry = b.max_retry ∙ a.max_retry; whole = b.whole }
+becomes-then f a b = record { machine = b.machine ∙ ap f a.machine; chain = b.chain ∙ a.chain; max_retry = b.max_retry ∙ a.max_retry }
 
-pub becomes-same : (m : Machine) → Whole m → Becomes m (view m) m
-becomes-same m w = record { machine = refl; chain = refl; max_retry = refl; whole = w }
+pub becomes-same : (m : Machine) → Becomes m (view m) m
+becomes-same m = record { machine = refl; chain = refl; max_retry = refl }
 
 -- What is done to a dispatch, in other words.
 pub moves-as : {len : ℕ} {f g : List Effect → Model → Model} {d r : Dispatch} → Moves len f d r → ((c : Core) (es : List Effect) → f es (within c es d) ≡ g es (within c es d)) → Moves len g d r
 moves-as b e = record { machine = λ c es h. b.machine c es h ∙ e c es; few = b.few }
 
-module _ (m : Machine) (w : Whole m) where
+module _ (m : Machine) where
   -- Nothing is left of a batch whose end is reached, and else the next effect and those after it.
   held-short : length (held m.work.sink) ≤ m.work.sink.len
   unfolding held
   held-short = omega (arith, length-take m.work.sink.len m.work.sink.effects)
 
-  pub moves-becomes : (f : List Effect → Model → Model) (r : Dispatch) → Moves m.work.sink.len f m.dispatch r → Becomes m (f (held m.work.sink) (view m)) (puts r m)
+  pub moves-becomes : (f : List Effect → Model → Model) (r : Machine) → Puts m r → Moves m.work.sink.len f m.dispatch r.dispatch → Becomes m (f (held m.work.sink) (view m)) r
   unfolding view
-  moves-becomes f r b = record { machine = b.machine _ (held m.work.sink) held-short; chain = refl; max_retry = refl; whole = record { sane = w.sane; room = w.room; few = b.few } }
+  moves-becomes f r p b = record {
+    machine = (λ j. within (core_of (size (p.0.0 j)) (bare (p.1 j).state (p.1 j).rot)) (held (p.1 j).sink) r.dispatch) ∙ b.machine _ (held m.work.sink) held-short;
+    chain = p.0.0;
+    max_retry = p.0.1;
+  }
 
   pub left-none : m.work.sink.len ≤ m.dispatch.next → (view m).left ≡ []
   unfolding view
@@ -113,6 +122,9 @@ module _ (e : Event) (x : Model) where
 
 pub fail-first : (x : Model) → x.failed ≡ false → fail x ≡ latch x
 fail-first x f = ap (λ (b : Bool). pick b (left_is [] x) (latch x)) f
+
+pub fail-later : (x : Model) → x.failed ≡ true → fail x ≡ left_is [] x
+fail-later x f = ap (λ (b : Bool). pick b (left_is [] x) (latch x)) f
 
 -- A turn, and the event that it takes, by what waits, is left and is queued.
 module _ (ch : List Component) (max : ℕ) (x : Model) where
@@ -152,24 +164,17 @@ pub never : {A : Type 0} → false ≡ true → A
 never h = cc
 
 -- The step that settles the front event.
-chain-few : (c : Chain) (w : Work) → Sane c w → size c ≤ 255
-chain-few c w s = omega (arith, length-take c.list.len c.list.entries, s.sound.few)
+pub chain-few : (m : Machine) → size m.chain ≤ 255
+chain-few m = omega (arith, length-take m.chain.list.len m.chain.list.entries, (accepted-sound m.chain.list.len (entries m.chain) m.accepted).few)
 
-module _ (m : Machine) (w : Whole m) (e : Event) (s : Work) (d : Dispatch) where
-  short : (q : List Event) → length q ≤ 8 → length (rest q) ≤ 8
-  short [] h = omega arith
-  short (x ∷ q) h = omega arith
-
-  pub stepped-becomes : Stepped m.chain m.max_retry (bare m.work.state m.work.rot) e s → Taken m.dispatch d
-      → Becomes m (front_taken (chain_of m) m.max_retry e (rest (view m).queue) (view m)) (works s d m)
+module _ (m : Machine) (e : Event) where
+  pub stepped-becomes : (r : Machine) → Works m r → Stepped m.chain m.max_retry (bare m.work.state m.work.rot) e r.work → Taken m.dispatch r.dispatch
+      → Becomes m (front_taken (chain_of m) m.max_retry e (rest (view m).queue) (view m)) r
   unfolding view
-  stepped-becomes g t = record {
-    machine = λ j. record { core = g.core j; waiting = t.waiting j; left = drop (t.next j) (g.effects j); queue = t.queue j; failed = t.failed j };
-    chain = refl;
-    max_retry = refl;
-    whole = record {
-      sane = record { charted = w.sane.charted; sound = w.sane.sound; fit = g.fit };
-      room = omega (arith, g.few, chain-few m.chain (bare m.work.state m.work.rot) w.sane);
-      few = subst (λ (l : List Event). length l ≤ 8) (sym t.queue) (short (events m.dispatch.pending) w.few);
-    };
+  stepped-becomes r p g t = record {
+    machine =
+        (λ j. within (core_of (size (p.0 j)) (bare r.work.state r.work.rot)) (held r.work.sink) r.dispatch)
+        ∙ (λ j. record { core = g.core j; waiting = t.waiting j; left = drop (t.next j) (g.effects j); queue = t.queue j; failed = t.failed j });
+    chain = p.0;
+    max_retry = p.1;
   }

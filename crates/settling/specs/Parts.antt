@@ -4,7 +4,7 @@ use Rattle.model.specs.declared.Effect.{Effect}
 use Rattle.pending.specs.Queue.{events, rest}
 use Rattle.machine.specs.View.{Core}
 use Rattle.settling.specs.declared.Dispatch.{Dispatch}
-use Rattle.settling.specs.declared.Machine.{Machine}
+use Rattle.settling.specs.declared.whole.Machine.{Machine}
 use Rattle.settling.specs.Settle.{Model, turn_of}
 use Rattle.settling.specs.View.{view, chain_of, within, Short}
 

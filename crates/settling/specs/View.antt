@@ -7,10 +7,9 @@ use Rattle.chain.specs.Tables.{entries, size}
 use Rattle.store.specs.Sink.{held}
 use Rattle.pending.specs.Queue.{events, emits}
 use Rattle.machine.specs.View.{Core, core_of}
-use Rattle.entry.specs.Premise.{Sane}
 use Rattle.rot.specs.Stepped.{bare}
 use Rattle.settling.specs.declared.Dispatch.{Dispatch}
-use Rattle.settling.specs.declared.Machine.{Machine}
+use Rattle.settling.specs.declared.whole.Machine.{Machine}
 use Rattle.settling.specs.Settle.{Model}
 
 -- What a dispatch keeps, read beside what the rules see and the effects of the batch.
@@ -28,19 +27,11 @@ chain_of m = entries m.chain
 abbrev pub Short : Dispatch → Type 0
 Short d = length (events d.pending) ≤ 8
 
--- Within and between calls: an accepted chain with its own tables, nothing isolated past it, the cursor within it or at its
--- end, at most 512 effects and 8 events.
-pub record Whole (m : Machine) : Type 0 where
-  pub sane : Sane m.chain (bare m.work.state m.work.rot)
-  pub room : m.work.sink.len ≤ 512
-  pub few : Short m.dispatch
-
 -- r is a machine for the same chain and max_retry as m, and it is read as x.
 pub record Becomes (m : Machine) (x : Model) (r : Machine) : Type 0 where
   pub machine : view r ≡ x
   pub chain : r.chain ≡ m.chain
   pub max_retry : r.max_retry ≡ m.max_retry
-  pub whole : Whole r
 
 -- Between calls an effect other than Emit waits, or nothing is left, queued or failed.
 abbrev pub RestsBy : Option Effect → List Effect → List Event → Bool → Type 0
@@ -50,8 +41,7 @@ RestsBy None es q f = (es ≡ []) × (q ≡ []) × (f ≡ false)
 abbrev pub Rests : Model → Type 0
 Rests m = RestsBy m.waiting m.left m.queue m.failed
 
--- What holds of every machine that `new` gives on 0 and that `begin` and `reply` give. It says nothing of how the machine
--- came about.
-pub record Valid (m : Machine) : Type 0 where
-  pub whole : Whole m
-  pub rests : Rests (view m)
+-- What holds of every machine that `new` gives on 0 and that `begin` and `reply` make of such a one. It says nothing of how the
+-- machine came about.
+abbrev pub Valid : Machine → Type 0
+Valid m = Rests (view m)

@@ -4,13 +4,14 @@
 ghost use Rattle.std.specs.Prelude.{◌≡◌, true, false, None, ℕ, ◌+◌, ◌<◌, drop};
 ghost use Rattle.pending.specs.Queue.{emits, rest};
 ghost use Rattle.settling.specs.Settle.{waiting_is, failed_is, latch, fail, enqueue, replied, hand_out, front_taken, turn_of, next_event, settle};
-ghost use Rattle.settling.specs.View.{view, chain_of, Short, Whole, Becomes};
+ghost use Rattle.settling.specs.View.{view, chain_of, Becomes};
 ghost use Rattle.settling.specs.Parts.{Moves, Taken, Rested};
 
-use chain::Chain;
-use machine::Work;
+mod whole;
+
 use model::{Effect, Event};
 use pending::Pending;
+pub use whole::Machine;
 
 // The answer to an effect that was handed out: done, done with one event, or failed.
 // An enum of its own: document 01 names these three, and a Result<Option<Event>, ()> would read worse.
@@ -31,19 +32,11 @@ pub struct Dispatch {
     pub failed: bool,
 }
 
-// The effects of the batch are those in the sink of the work. What a dispatch keeps is a part by itself, so that what settles
-// no event need take and give this part alone.
-#[derive(Clone, Copy)]
-pub struct Machine {
-    pub chain: Chain,
-    pub max_retry: u8,
-    pub work: Work,
-    pub dispatch: Dispatch,
-}
+// A dispatch goes with `len`, the number of effects of its batch. That is the length of the sink: kept in the dispatch too, the
+// two would have to be kept equal.
 
 // The first failure in a dispatch: of the batch of `len` effects nothing more is handed out.
 fn latch(mut d: Dispatch, len: usize) -> Dispatch
-    requires { Short d }
     ensures { Moves len (λ es. latch) d result }
 {
     d.next = len;
@@ -54,7 +47,6 @@ fn latch(mut d: Dispatch, len: usize) -> Dispatch
 
 // A failed reply. Later failures in the dispatch only end their batch.
 fn fail(mut d: Dispatch, len: usize) -> Dispatch
-    requires { Short d }
     ensures { Moves len (λ es. fail) d result }
 {
     if d.failed {
@@ -67,7 +59,6 @@ fn fail(mut d: Dispatch, len: usize) -> Dispatch
 // An event to the back of the queue. One that finds 8 queued is lost: that is the first failure, if there was none; after
 // one, the batch goes on.
 pub fn enqueue(mut d: Dispatch, len: usize, event: Event) -> Dispatch
-    requires { Short d }
     ensures { Moves len (λ es. enqueue event) d result }
 {
     if d.pending.count() < 8 {
@@ -81,8 +72,8 @@ pub fn enqueue(mut d: Dispatch, len: usize, event: Event) -> Dispatch
 }
 
 // The waiting effect is answered; it waits no more.
+#[tactic(auto, using(crate::proofs::Views::short_of))]
 pub fn replied(mut d: Dispatch, len: usize, reply: Reply) -> Dispatch
-    requires { Short d }
     ensures { Moves len (λ es x. replied reply (waiting_is None x)) d result }
 {
     d.waiting = None;
@@ -94,8 +85,9 @@ pub fn replied(mut d: Dispatch, len: usize, reply: Reply) -> Dispatch
 }
 
 // The next effect of the batch: Emit's event is queued, any other effect is handed out.
+#[tactic(auto, using(crate::proofs::Views::short_of))]
 pub fn hand_out(mut d: Dispatch, len: usize, effect: Effect) -> Dispatch
-    requires { (Short d) × (d.next < len) }
+    requires { d.next < len }
     ensures { Moves len (λ es x. hand_out effect (drop (d.next + 1) es) x (emits effect)) d result }
 {
     d.next += 1;
@@ -116,8 +108,8 @@ pub fn taken(mut d: Dispatch) -> Dispatch
 }
 
 // The dispatch has ended, and it counts as failed no more.
+#[tactic(auto, using(crate::proofs::Views::short_of))]
 pub fn rested(mut d: Dispatch) -> Dispatch
-    requires { Short d }
     ensures { (len : ℕ) → Moves len (λ es. failed_is false) d result }
 {
     d.failed = false;
@@ -126,7 +118,6 @@ pub fn rested(mut d: Dispatch) -> Dispatch
 
 // The front event is taken and settled: a step, whose effects are the batch.
 fn take_front(mut m: Machine, event: Event) -> Machine
-    requires { Whole m }
     ensures { Becomes m (front_taken (chain_of m) m.max_retry event (rest (view m).queue) (view m)) result }
 {
     m.work = rot::step(
@@ -143,7 +134,6 @@ fn take_front(mut m: Machine, event: Event) -> Machine
 
 // The event that a turn would take.
 pub fn next_event(m: Machine) -> Option<Event>
-    requires { Whole m }
     ensures { result ≡ next_event (view m) }
 {
     if m.dispatch.waiting.is_some() || m.dispatch.next < m.work.sink.len {
@@ -155,7 +145,6 @@ pub fn next_event(m: Machine) -> Option<Event>
 // One turn: nothing while an effect waits; else the next effect of the batch; else the front event; else the dispatch has
 // ended, and it counts as failed no more.
 pub fn turn(mut m: Machine) -> Machine
-    requires { Whole m }
     ensures { Becomes m (turn_of (chain_of m) m.max_retry (view m)) result }
 {
     if m.dispatch.waiting.is_some() {
@@ -175,7 +164,6 @@ pub fn turn(mut m: Machine) -> Machine
 
 // Does a turn change nothing?
 fn at_rest(m: Machine) -> bool
-    requires { Whole m }
     ensures { result ≡ true → Rested m }
 {
     m.dispatch.waiting.is_some()
@@ -187,7 +175,6 @@ fn at_rest(m: Machine) -> bool
 // Turns up to the next effect or the end; none while an effect waits. There are at most 512 effects left, 8 events queued,
 // and one turn more.
 pub fn settle(mut m: Machine) -> Machine
-    requires { Whole m }
     ensures { Becomes m (settle (chain_of m) m.max_retry (view m)).machine result }
 {
     for _ in 0..521usize {

@@ -34,7 +34,7 @@ use Rattle.failures.specs.Failures.{timeout, boot_failed}
 use Rattle.recovery.specs.Recovery.{restored, unavailable, retry_at, start_over, exhausted}
 use Rattle.updates.specs.Updates.{power, commit_timeout}
 use Rattle.rot.specs.Step.{rule, in_chain, step_of}
-use Rattle.rot.proofs.Choice.{by_policy_p, by_kind_p, by_state_p}
+use Rattle.rot.proofs.Choice.{by_policy_p, by_state_p}
 use Rattle.pending.specs.Queue.{emits}
 
 -- The first effect, if any, queues no event.

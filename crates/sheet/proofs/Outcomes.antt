@@ -14,11 +14,11 @@ use Rattle.components.specs.declared.ChainError.{ChainError}
 use Rattle.components.specs.declared.ChainError.TheVariants.{Empty, TooLong, DuplicateId, UnknownDependency, ForwardDependency}
 use Rattle.components.specs.Chain.{entries_of, verdict_of, answer_of, Verdict, no_refusal}
 use Rattle.text.specs.Lines.{over}
-use Rattle.settling.specs.declared.Machine.{Machine}
+use Rattle.settling.specs.declared.whole.Machine.{Machine}
 use Rattle.sm.specs.Calls.{start_of}
 use Rattle.sm.specs.Gives.{Fresh}
 use Rattle.reader.specs.declared.Sheet.{Sheet}
-use Rattle.reader.specs.declared.BadLine.{BadLine}
+use Rattle.reader.specs.declared.BadSheet.{BadSheet}
 use Rattle.reader.specs.Read.{rows_in, bad_line, cards_in, Whole, Bad}
 use Rattle.reader.proofs.Kept.{kept-cards, kept-verdict}
 use Rattle.driver.specs.declared.End.{End}
@@ -59,12 +59,12 @@ module _ (s : List ℕ) where
   check-good h = ap (λ (b : Bool). pick b (judged (verdict_in s)) (nothing 1 (bad_line s) 0)) (eq-eqb (bad_line s) 0 h)
 
   -- Question 1 refuses the sheet.
-  module _ (b : BadLine) (g : Bad s b) where
-    bad-check : check_of s ≡ nothing 1 b.0 0
+  module _ (b : BadSheet) (g : Bad s b) where
+    bad-check : check_of s ≡ nothing 1 b.line 0
     bad-check = check-bad (λ z. omega (arith, g.some, g.line)) ∙ ap (λ (n : ℕ). nothing 1 n 0) (sym g.line)
 
-    pub bad-told : told (Err (R.BadLine b)) 0 0 ≡ numbers_of (check_of s)
-    bad-told = sym (ap numbers_of bad-check ∙ nothing-numbers 1 b.0 0)
+    pub bad-told : told (Err (R.BadLine b.line)) 0 0 ≡ numbers_of (check_of s)
+    bad-told = sym (ap numbers_of bad-check ∙ nothing-numbers 1 b.line 0)
 
     pub bad-number : (check_of s).number ≡ 0 → ⊥
     bad-number z = let one : ◌≡◌ {A = ℕ} 1 0 = sym (ap (λ (o : Outcome). o.number) bad-check) ∙ z in omega arith

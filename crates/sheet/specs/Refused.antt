@@ -13,7 +13,7 @@ use Rattle.sheet.specs.Sheet.{RunGives}
 -- The number of the question that refuses, and its two places; 0 where none does.
 abbrev pub question : Result (Unit {0}) Refusal → C.Answer
 question (Ok u) = record { number = 0; place = 0; other = 0 }
-question (Err (BadLine b)) = record { number = 1; place = b.0; other = 0 }
+question (Err (BadLine n)) = record { number = 1; place = n; other = 0 }
 question (Err (Chain e)) = answer_of (Err e)
 question (Err (Run e)) = record { number = number_in (Err e); place = place_in (Err e); other = 0 }
 

@@ -8,7 +8,7 @@ ghost use Rattle.sheet.specs.Refused.{told, Drives};
 
 use components::ChainError;
 use driver::{End, RunError};
-use reader::BadLine;
+use reader::BadSheet;
 
 // A number of the scope's questions or 0, its two places, bytes written, events settled: five numbers, as C reads them.
 #[repr(C)]
@@ -24,16 +24,16 @@ pub struct Answer {
 // Why a sheet is not run to its end: question 1, questions 2 to 6, questions 7 to 9.
 #[derive(Clone, Copy, Debug, PartialEq, Eq)]
 enum Refusal {
-    BadLine(BadLine),
+    BadLine(usize),
     Chain(ChainError),
     Run(RunError),
 }
 
-impl From<BadLine> for Refusal {
-    ghost from_gives = { λ line refusal. refusal ≡ BadLine line };
+impl From<BadSheet> for Refusal {
+    ghost from_gives = { λ bad refusal. refusal ≡ BadLine bad.line };
 
-    fn from(line: BadLine) -> Self {
-        Refusal::BadLine(line)
+    fn from(bad: BadSheet) -> Self {
+        Refusal::BadLine(bad.line)
     }
 }
 
@@ -59,7 +59,7 @@ fn numbers(outcome: Result<(), Refusal>, written: u64, settled: u64) -> Answer
 {
     let (number, place, other) = match outcome {
         Ok(()) => (0, 0, 0),
-        Err(Refusal::BadLine(BadLine(line))) => (1, line as u64, 0),
+        Err(Refusal::BadLine(line)) => (1, line as u64, 0),
         Err(Refusal::Chain(error)) => {
             let verdict = components::Answer::from(Err(error));
             (verdict.number, verdict.place, verdict.other)

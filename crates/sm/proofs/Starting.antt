@@ -1,26 +1,28 @@
 -- The machine that `new` gives for an accepted list.
 use Rattle.std.specs.Prelude.{None, Ok}
-use Prim.Native.Nat.{ℕ, ◌≤◌}
+use Prim.Native.Nat.{ℕ}
 use native.Mathlib.Omega.{arith}
 use mathlib.Core.Path.{◌≡◌, refl, sym, ap, ◌∙◌, subst}
 use mathlib.Core.Bool.{false}
 use mathlib.Core.List.{List, []}
-use lib.ListN.{length, replicate, length-take}
-use Rattle.components.specs.Chain.{entries_of, verdict_of, Sound, no_refusal}
+use lib.ListN.{length, replicate}
+use Rattle.components.specs.Chain.{entries_of, verdict_of, refuses, no_refusal}
 use Rattle.model.specs.declared.Component.{Component}
 use Rattle.components.specs.declared.ComponentList.{ComponentList}
 use Rattle.model.specs.declared.State.TheVariants.{PowerOnReset}
-use Rattle.components.proofs.Accepted.{accepted}
+use Rattle.components.proofs.Accepted.{accepted-sound}
 use Rattle.chain.specs.declared.Chain.{Chain}
-use Rattle.chain.specs.Tables.{entries, size}
-use Rattle.chain.specs.Filled.{ChartOf}
+use Rattle.chain.specs.Tables.{entries, size, Accepted}
 use Rattle.store.specs.Sink.{held}
 use Rattle.pending.specs.Queue.{events}
 use Rattle.machine.specs.declared.ComponentStatus.{ComponentStatus}
 use Rattle.machine.specs.Status.{fresh}
-use Rattle.machine.proofs.New.{new-fits, new-statuses}
-use Rattle.settling.specs.declared.Machine.{Machine}
-use Rattle.settling.specs.View.{view, Valid}
+use Rattle.machine.specs.View.{core_of}
+use Rattle.machine.proofs.New.{new-statuses}
+use Rattle.rot.specs.Stepped.{bare}
+use Rattle.settling.specs.declared.whole.Machine.{Machine}
+use Rattle.settling.specs.View.{view, within, Rests, Valid}
+use Rattle.settling.proofs.Views.{chain-few}
 use Rattle.sm.specs.Calls.{start_of}
 use Rattle.sm.specs.Gives.{untouched, idle, Fresh, NewGives}
 
@@ -28,29 +30,32 @@ use Rattle.sm.specs.Gives.{untouched, idle, Fresh, NewGives}
 pub made-valid : (l : ComponentList) (max : ℕ) (m : Machine) → NewGives l max (Ok m) → Valid m
 made-valid l max m g = g.1.valid
 
--- A machine without components is none that `begin` or `reply` takes.
-pub blank-invalid : (m : Machine) → m.chain.list.len ≡ 0 → Valid m → ⊥
-blank-invalid m z v = omega (arith, z, v.whole.sane.sound.some)
+-- No machine is without components: a list with none is refused.
+pub blank-invalid : (m : Machine) → m.chain.list.len ≡ 0 → ⊥
+blank-invalid m z = omega (arith, z, (accepted-sound m.chain.list.len (entries m.chain) m.accepted).some)
 
-abbrev pub start : Chain → ℕ → Machine
-start c max = record { chain = c; max_retry = max; work = untouched PowerOnReset; dispatch = idle }
+-- What stands in the machine of a list, beside what is known of every machine.
+pub record Started (l : ComponentList) (max : ℕ) (m : Machine) : Type 0 where
+  pub list : m.chain.list ≡ l
+  pub max_retry : m.max_retry ≡ max
+  pub work : m.work ≡ untouched PowerOnReset
+  pub dispatch : m.dispatch ≡ idle
 
-pub start-fresh : (l : ComponentList) (max : ℕ) (c : Chain) → length l.entries ≡ 255 → verdict_of l.len (entries_of l) ≡ no_refusal → ChartOf l c → Fresh l max (start c max)
+pub start-fresh : (l : ComponentList) (max : ℕ) (m : Machine) → Started l max m → Fresh l max m
 unfolding view start_of held events
-start-fresh l max c full h g =
-    let sound : Sound l.len (entries_of l) = (accepted l.len (entries_of l)).0 h in
-    let chain : entries c ≡ entries_of l = ap entries_of g.same in
-    let few : size c ≤ 255 = subst (λ (ch : List Component). length ch ≤ 255) (sym chain) (omega (arith, length-take l.len l.entries)) in
+start-fresh l max m g =
+    let chain : entries m.chain ≡ entries_of l = ap entries_of g.list in
+    let same : view m ≡ start_of (entries_of l) =
+    (λ j. within (core_of (size m.chain) (bare (g.work j).state (g.work j).rot)) (held (g.work j).sink) (g.dispatch j))
+    ∙ ap (λ (st : List ComponentStatus). record { core = record { state = PowerOnReset; cursor = 0; statuses = st; window = false }; waiting = None; left = []; queue = []; failed = false }) (new-statuses (size m.chain) (chain-few m) ∙ ap (λ (ch : List Component). replicate (length ch) fresh) chain)
+    in
     record {
-      machine = ap (λ (st : List ComponentStatus). record { core = record { state = PowerOnReset; cursor = 0; statuses = st; window = false }; waiting = None; left = []; queue = []; failed = false }) (new-statuses (size c) few ∙ ap (λ (ch : List Component). replicate (length ch) fresh) chain);
+      machine = same;
       chain = chain;
-      max_retry = refl;
-      valid = record {
-        whole = record {
-          sane = record { charted = g.charted; sound = subst (λ (k : ComponentList). Sound k.len (entries_of k)) (sym g.same) sound; fit = new-fits (size c) };
-          room = omega arith;
-          few = omega arith;
-        };
-        rests = (refl, refl, refl);
-      };
+      max_retry = g.max_retry;
+      valid = subst Rests (sym same) (refl, refl, refl);
     }
+
+-- The chain of an accepted list is accepted.
+pub start-accepted : (l : ComponentList) (c : Chain) → verdict_of l.len (entries_of l) ≡ no_refusal → c.list ≡ l → Accepted c
+start-accepted l c h e = subst (λ (k : ComponentList). refuses (verdict_of k.len (entries_of k)) ≡ false) (sym e) (ap refuses h)

@@ -12,15 +12,14 @@ use Rattle.model.specs.declared.Effect.{Effect}
 use Rattle.model.proofs.Pick.{pick_p}
 use Rattle.chain.specs.Tables.{entries}
 use Rattle.pending.specs.Queue.{has_room}
-use Rattle.settling.specs.declared.Dispatch.{Dispatch}
-use Rattle.settling.specs.declared.Machine.{Machine}
+use Rattle.settling.specs.declared.whole.Machine.{Machine}
 use Rattle.settling.specs.declared.Reply.{Reply}
 use Rattle.settling.specs.declared.Reply.TheVariants.{Done, Then, Failed}
 use Rattle.settling.specs.Settle.{Model, Run, waiting_is, queue_is, enqueue, replied, settle}
-use Rattle.settling.specs.View.{view, chain_of, Becomes, Rests, Valid}
+use Rattle.settling.specs.View.{view, chain_of, Becomes, Rests}
 use Rattle.settling.specs.Parts.{Moves}
 use Rattle.settling.proofs.Ends.{Few, fail-few, enqueue-few, settle-ends}
-use Rattle.settling.proofs.Views.{puts, becomes-as, moves-becomes, enqueue-room, view-waiting, none_waits}
+use Rattle.settling.proofs.Views.{Puts, becomes-as, moves-becomes, enqueue-room, view-waiting, none_waits}
 use Rattle.sm.specs.declared.Called.{Called}
 use Rattle.sm.specs.declared.CallError.{CallError}
 use Rattle.sm.specs.Calls.{Expected, answered, refused, done_by, begin_of, reply_by, reply_of}
@@ -71,14 +70,14 @@ settles m v r y e a h f b q =
       max_retry = b.max_retry ∙ a.max_retry;
       kept = λ k. absurd (k refl);
       few = ends.1;
-      valid = record { whole = b.whole; rests = subst Rests (sym same) ends.0 };
+      valid = λ v. subst Rests (sym same) ends.0;
     }
 
 -- A refused call gives the machine that it was given.
-pub refuses : (m : Machine) (a : CallError) (e : Called) → Valid m → e ≡ reported m (Err a) → CallGives m (refused (number_of (Err a)) (view m)) e
-refuses m a e w q = subst (CallGives m (refused (number_of (Err a)) (view m))) (sym q) record { machine = refl; number = refl; effect = sym (view-waiting m); chain = refl; max_retry = refl; kept = λ k. refl; few = omega arith; valid = w }
+pub refuses : (m : Machine) (a : CallError) (e : Called) → e ≡ reported m (Err a) → CallGives m (refused (number_of (Err a)) (view m)) e
+refuses m a e q = subst (CallGives m (refused (number_of (Err a)) (view m))) (sym q) record { machine = refl; number = refl; effect = sym (view-waiting m); chain = refl; max_retry = refl; kept = λ k. refl; few = omega arith; valid = λ v. v }
 
-module _ (m : Machine) (w : Valid m) (e : Event) where
+module _ (m : Machine) (e : Event) where
   abbrev done : Bool
   done = done_by (view m).waiting (view m).queue
 
@@ -91,10 +90,10 @@ module _ (m : Machine) (w : Valid m) (e : Event) where
   begin-refused h = ap (λ (b : Bool). pick b (answered (settle (chain_of m) m.max_retry (queue_is (e ∷ []) (view m)))) (refused 10 (view m))) h
 
   -- The event stands alone in the queue.
-  pub begun : done ≡ true → (d : Dispatch) → Moves m.work.sink.len (λ es. enqueue e) m.dispatch d → Becomes m (queue_is (e ∷ []) (view m)) (puts d m)
-  begun h d b =
+  pub begun : done ≡ true → (v : Machine) → Puts m v → Moves m.work.sink.len (λ es. enqueue e) m.dispatch v.dispatch → Becomes m (queue_is (e ∷ []) (view m)) v
+  begun h v p b =
       let none : (view m).queue ≡ [] = (done-both (view m).waiting (view m).queue h).1 in
-      becomes-as (moves-becomes m w.whole (λ (es : List Effect). enqueue e) d b)
+      becomes-as (moves-becomes m (λ (es : List Effect). enqueue e) v p b)
       (enqueue-room e (view m) (omega (arith, ap (λ (q : List Event). length q) none)) ∙ ap (λ (q : List Event). queue_is (q ++ (e ∷ [])) (view m)) none)
 
   pub begun-idle : done ≡ true → m.dispatch.waiting ≡ None

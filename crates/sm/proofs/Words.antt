@@ -10,8 +10,9 @@ use Rattle.store.specs.declared.Status.{Status}
 use Rattle.machine.specs.Status.{iso}
 use Rattle.machine.specs.View.{joined, statuses_of}
 use Rattle.chain.specs.Tables.{size}
-use Rattle.settling.specs.declared.Machine.{Machine}
-use Rattle.settling.specs.View.{view, Valid}
+use Rattle.settling.specs.declared.whole.Machine.{Machine}
+use Rattle.settling.specs.View.{view}
+use Rattle.settling.proofs.Views.{chain-few}
 use Rattle.sm.specs.Isolation.{isolation}
 
 iso-joined : (bs : List Bool) (ss : List Status) → length bs ≤ length ss → map iso (joined bs ss) ≡ bs
@@ -28,16 +29,13 @@ trues-none [] (suc n) = trues-none [] n
 trues-none (true ∷ bs) n = ap suc (trues-none bs n)
 trues-none (false ∷ bs) n = trues-none bs n
 
-module _ (m : Machine) (full : length m.work.rot.statuses ≡ 255) (v : Valid m) where
-  few : size m.chain ≤ 255
-  few = omega (arith, length-take m.chain.list.len m.chain.list.entries, v.whole.sane.sound.few)
-
+module _ (m : Machine) (full : length m.work.rot.statuses ≡ 255) where
   flagged : map iso (view m).core.statuses ≡ take (size m.chain) (flags m.work.rot.isolated)
   unfolding view statuses_of
-  flagged = iso-joined (take (size m.chain) (flags m.work.rot.isolated)) (take (size m.chain) m.work.rot.statuses) (omega (arith, few, length-take (size m.chain) (flags m.work.rot.isolated), length-take (size m.chain) m.work.rot.statuses))
+  flagged = iso-joined (take (size m.chain) (flags m.work.rot.isolated)) (take (size m.chain) m.work.rot.statuses) (omega (arith, chain-few m, length-take (size m.chain) (flags m.work.rot.isolated), length-take (size m.chain) m.work.rot.statuses))
 
   pub words-say : flags m.work.rot.isolated ≡ isolation m
-  words-say = sym (take-append-drop (size m.chain) (flags m.work.rot.isolated)) ∙ (λ j. sym flagged j ++ v.whole.sane.fit.clean j)
+  words-say = sym (take-append-drop (size m.chain) (flags m.work.rot.isolated)) ∙ (λ j. sym flagged j ++ m.fit.clean j)
 
   pub count-says : trues (flags m.work.rot.isolated) ≡ trues (map iso (view m).core.statuses)
   count-says = ap trues words-say ∙ trues-none (map iso (view m).core.statuses) (256 - size m.chain)

@@ -9,7 +9,7 @@ use Rattle.machine.specs.declared.Work.{Work}
 use Rattle.components.specs.declared.ComponentList.{ComponentList}
 use Rattle.components.specs.declared.ChainError.{ChainError}
 use Rattle.settling.specs.declared.Dispatch.{Dispatch}
-use Rattle.settling.specs.declared.Machine.{Machine}
+use Rattle.settling.specs.declared.whole.Machine.{Machine}
 use Rattle.settling.specs.View.{view, chain_of, Valid}
 use Rattle.sm.specs.declared.CallError.{CallError}
 use Rattle.sm.specs.declared.CallError.TheVariants.{NothingWaits, NotDone}
@@ -57,4 +57,4 @@ pub record CallGives (m : Machine) (x : Expected) (r : Called) : Type 0 where
   pub max_retry : r.machine.max_retry ≡ m.max_retry
   pub kept : (x.number ≡ 0 → ⊥) → r.machine ≡ m
   pub few : length x.settled ≤ 8
-  pub valid : Valid r.machine
+  pub valid : Valid m → Valid r.machine

@@ -6,7 +6,7 @@ ghost use Rattle.std.specs.Prelude.{◌≡◌, map, length, Err};
 ghost use Rattle.components.specs.Chain.{entries_of, verdict_of};
 ghost use Rattle.isolated.specs.Flags.{flags_of, flags, trues};
 ghost use Rattle.machine.specs.Status.{status_at, iso};
-ghost use Rattle.settling.specs.View.{view, chain_of, Valid};
+ghost use Rattle.settling.specs.View.{view, chain_of};
 ghost use Rattle.sm.specs.Calls.{done_by, begin_of, reply_of};
 ghost use Rattle.sm.specs.Isolation.{isolation};
 ghost use Rattle.sm.specs.Gives.{untouched, idle, Fresh, NewGives, CallGives, reported, number_of};
@@ -111,7 +111,6 @@ fn report(machine: Machine, answer: Result<(), CallError>) -> Called
 
 // Begins an event, and settles up to the next effect or the end.
 pub fn begin(mut machine: Machine, event: Event) -> Called
-    requires { Valid machine }
     ensures { CallGives machine (begin_of (chain_of machine) machine.max_retry (view machine) event) result }
 {
     if !is_done(machine) {
@@ -123,7 +122,6 @@ pub fn begin(mut machine: Machine, event: Event) -> Called
 
 // Answers the effect that waits, and settles up to the next effect or the end.
 pub fn reply(mut machine: Machine, reply: Reply) -> Called
-    requires { Valid machine }
     ensures { CallGives machine (reply_of (chain_of machine) machine.max_retry (view machine) reply) result }
 {
     if machine.dispatch.waiting.is_none() {
@@ -167,14 +165,14 @@ pub fn waiting(m: Machine) -> Option<Effect>
 
 // The isolated positions: position p is bit p mod 64, lowest first, of word p / 64.
 pub fn isolated_words(m: Machine) -> [u64; 4]
-    ensures { (result ≡ m.work.rot.isolated.words) × (Valid m → flags_of 64 result ≡ isolation m) }
+    ensures { (result ≡ m.work.rot.isolated.words) × (flags_of 64 result ≡ isolation m) }
 {
     m.work.rot.isolated_words()
 }
 
 // How many components are isolated.
 pub fn isolated_count(m: Machine) -> usize
-    ensures { (result ≡ trues (flags m.work.rot.isolated)) × (Valid m → result ≡ trues (map iso (view m).core.statuses)) }
+    ensures { (result ≡ trues (flags m.work.rot.isolated)) × (result ≡ trues (map iso (view m).core.statuses)) }
 {
     m.work.rot.isolated.count()
 }

@@ -17,10 +17,9 @@
 // Any byte that is no digit ends a number. A number out of its range is brought into it, so that every line has an answer.
 #![tactic(auto)]
 
-ghost use Rattle.std.specs.Prelude.{◌≡◌, false, ◌-◌, ◌≤◌, ◌<◌, drop, replicate, IfOk, IfSome};
+ghost use Rattle.std.specs.Prelude.{◌≡◌, false, ◌-◌, ◌≤◌, ◌<◌, drop, replicate};
 ghost use Rattle.isolated.specs.Flags.{flags};
 ghost use Rattle.machine.specs.View.{Fit};
-ghost use Rattle.settling.specs.View.{Valid};
 
 use chain::Chain;
 use components::{Answer, ComponentList};
@@ -196,7 +195,7 @@ fn machine_at(ns: &[u64], i: usize, n: usize) -> Rot
     }
 }
 
-// ---- to numbers
+// ---- to numbers: the rows of the comparisons are numbers of several values in a line, so that no `Display` of one type gives them.
 
 // Numbers more, with a space before each that is not the first of its line.
 fn put(out: &mut String, numbers: &[u64]) -> Result<(), AllocError> {
@@ -352,10 +351,7 @@ fn answer_case(out: &mut String, ns: &[u64]) -> Result<(), AllocError> {
 }
 
 // A call that was not refused.
-fn called(machine: Machine) -> Called
-    requires { Valid machine }
-    ensures { Valid result.machine }
-{
+fn called(machine: Machine) -> Called {
     Called {
         machine,
         answer: Ok(()),
@@ -364,10 +360,7 @@ fn called(machine: Machine) -> Called
 }
 
 // The machine at hand in another situation: a comparison starts here where no history leads.
-fn set_up(ns: &[u64], m: Machine) -> Machine
-    requires { Valid m }
-    ensures { Valid result }
-{
+fn set_up(ns: &[u64], m: Machine) -> Machine {
     let n = m.chain.count();
     let rot = machine_at(ns, 3, n);
     Machine {
@@ -403,18 +396,15 @@ fn planted(ns: &[u64], failed_before: bool, latched: Pending) -> Pending {
 // The events of the first queue, and behind them those of the second but its front.
 fn behind(first: Pending, second: Pending) -> Pending {
     let mut queue = first;
-    for i in 1..second.count() {
-        queue = queue.push_back(second.entries[i]);
+    for event in second.entries.as_slice().iter().skip(1) {
+        queue = queue.push_back(*event);
     }
     queue
 }
 
 // The waiting effect failed. EffectFailed gives way to the events of the line, so that the machine need not lock: a
 // comparison sees here what is queued, lost and handed out after a failure.
-fn fail_planted(ns: &[u64], m: Machine) -> Machine
-    requires { Valid m }
-    ensures { Valid result }
-{
+fn fail_planted(ns: &[u64], m: Machine) -> Machine {
     let mut v = m;
     v.dispatch = settling::replied(m.dispatch, m.work.sink.len, Reply::Failed);
     v.dispatch.pending = planted(ns, m.dispatch.failed, v.dispatch.pending);
@@ -422,10 +412,7 @@ fn fail_planted(ns: &[u64], m: Machine) -> Machine
 }
 
 // A failed reply whose failure is planted. Where no effect waits it is refused as any reply is.
-fn reply_planted(ns: &[u64], m: Machine) -> Called
-    requires { Valid m }
-    ensures { Valid result.machine }
-{
+fn reply_planted(ns: &[u64], m: Machine) -> Called {
     if sm::waiting(m).is_none() {
         return sm::reply(m, Reply::Failed);
     }
@@ -433,10 +420,7 @@ fn reply_planted(ns: &[u64], m: Machine) -> Called
 }
 
 // A call on the machine m.
-fn call(ns: &[u64], m: Machine) -> Called
-    requires { Valid m }
-    ensures { Valid result.machine }
-{
+fn call(ns: &[u64], m: Machine) -> Called {
     match number_at(ns, 0) {
         257 => sm::begin(m, event_at(ns, 1)),
         258 => sm::reply(m, Reply::Done),
@@ -448,9 +432,7 @@ fn call(ns: &[u64], m: Machine) -> Called
 }
 
 // The machine of a list. A refused list leaves none at hand.
-fn answer_new(out: &mut String, ns: &[u64]) -> Result<Option<Machine>, AllocError>
-    ensures { IfOk result (λ kept. IfSome kept (λ m. Valid m)) }
-{
+fn answer_new(out: &mut String, ns: &[u64]) -> Result<Option<Machine>, AllocError> {
     let made = sm::new(list_of(ns, 2), byte_at(ns, 1));
     match made {
         Ok(machine) => {
@@ -469,10 +451,7 @@ fn answer(
     out: &mut String,
     ns: &[u64],
     kept: Option<Machine>,
-) -> Result<Option<Machine>, AllocError>
-    requires { IfSome kept (λ m. Valid m) }
-    ensures { IfOk result (λ kept. IfSome kept (λ m. Valid m)) }
-{
+) -> Result<Option<Machine>, AllocError> {
     let kind = number_at(ns, 0);
     if kind < 256 {
         answer_case(out, ns)?;
@@ -517,10 +496,7 @@ fn feed(
     line: &mut Line,
     chunk: &[u8],
     kept: Option<Machine>,
-) -> io::Result<Option<Machine>>
-    requires { IfSome kept (λ m. Valid m) }
-    ensures { IfOk result (λ kept. IfSome kept (λ m. Valid m)) }
-{
+) -> io::Result<Option<Machine>> {
     let mut kept = kept;
     for &b in chunk {
         read_byte(line, b)?;
@@ -533,6 +509,7 @@ fn feed(
     Ok(kept)
 }
 
+// The input comes in chunks, as in `verdicts`.
 fn main(rt: HostRuntime) -> io::Result<()> {
     let alloc = rt.alloc();
     let mut input = rt.stdin();

@@ -5,8 +5,8 @@ use mathlib.Core.List.{List, [], ◌∷◌, ◌++◌, append_assoc}
 use Prim.Native.Nat.{ℕ, zero, suc, ◌+◌, ◌-◌, ◌≤◌, ◌<◌, min}
 use native.Mathlib.Omega.{arith}
 use lib.ListN.{length, take, drop}
-use lib.Seq.{take_all, take_at, take-append-add}
-use Rattle.std.proofs.lemmas.List.{length-take, take_min}
+use lib.Seq.{take_all, take-append-add}
+use Rattle.std.proofs.lemmas.List.{take_min}
 use borrow.Author.Tests.{le-leb, lt-leb}
 use Rattle.text.specs.declared.Line.{Line}
 use Rattle.text.specs.Lines.{text_of, held, Pushed, Built, fits, written, room_after}
@@ -34,15 +34,6 @@ held-part s t n h e =
     ap (λ (k : ℕ). take k (s ++ t)) room
     ∙ take-append-add s t (64 - length s)
     ∙ ap (λ (r : List ℕ). s ++ r) (sym (ap (λ (k : ℕ). take k t) least ∙ take_min (64 - length s) t))
-
--- a full text has room for nothing more
-pub held-full : (s t : List ℕ) → length s ≡ 64 → held (s ++ t) ≡ s
-unfolding held
-held-full s t e = take_at s t 64 e
-
--- the text is the first bytes, as many as it has
-pub first-bytes : (l : Line) (n : ℕ) → n ≡ length (text_of l) → take n l.bytes ≡ text_of l
-first-bytes l n e = ap (λ (k : ℕ). take k l.bytes) (e ∙ length-take l.len l.bytes) ∙ take_min l.len l.bytes
 
 -- one text after another
 pub chained : {l m r : Line} {s t : List ℕ} → Pushed l s m → Pushed m t r → Pushed l (s ++ t) r

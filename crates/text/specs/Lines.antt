@@ -1,11 +1,12 @@
 -- Section 5: a line that is built, and a line that is put into a lent buffer.
 use Rattle.std.specs.Prelude.{◌≡◌, Bool, List, ◌++◌, ℕ, ◌+◌, leb, length, take, drop, Option, None, Some}
 use Rattle.model.specs.Vocabulary.{pick}
+use Rattle.bounded.specs.Items.{items_of}
 use Rattle.text.specs.declared.Line.{Line}
 
--- The text of a line: its bytes, up to its length.
+-- The text of a line: its bytes.
 abbrev pub text_of : Line → List ℕ
-text_of l = take l.len l.bytes
+text_of l = items_of l.bytes
 
 -- What a line can hold of a text: its first 64 bytes.
 unfoldable pub held : List ℕ → List ℕ

@@ -5,19 +5,23 @@ ghost use Rattle.std.specs.Prelude.{◌≡◌, List, [], ◌∷◌, ◌++◌, le
 ghost use Rattle.text.specs.Text.{◌⇥◌, line, decimal};
 ghost use Rattle.text.specs.Lines.{text_of, Pushed, Built, written, room_after};
 
-// The longest line of a transcript has 45 bytes. A length over 64 counts as 64, so that no caller has to show anything.
+use bounded::Bounded;
+
+// The longest line of a transcript has 45 bytes.
 #[derive(Clone, Copy)]
 pub struct Line {
-    pub bytes: [u8; 64],
-    pub len: usize,
+    pub bytes: Bounded<u8, 64>,
 }
 
 pub fn empty() -> Line
     ensures { text_of result ≡ [] }
 {
+    // Written out: `Bounded::new` fills its array item by item, and a run makes a line at every step.
     Line {
-        bytes: [0; 64],
-        len: 0,
+        bytes: Bounded {
+            items: [0; 64],
+            len: 0,
+        },
     }
 }
 
@@ -25,24 +29,21 @@ pub fn empty() -> Line
 pub fn size(l: Line) -> usize
     ensures { result ≡ length (text_of l) }
 {
-    l.len.min(64)
+    l.bytes.count()
 }
 
 // The bytes of the line.
 pub fn bytes(l: &Line) -> &[u8]
     ensures { result.now ≡ text_of l.now }
 {
-    &l.bytes[..l.len.min(64)]
+    l.bytes.as_slice()
 }
 
 // One byte more. A full line stays as it is.
 pub fn push(mut l: Line, b: u8) -> Line
     ensures { Pushed l (b ∷ []) result }
 {
-    if l.len < 64 {
-        l.bytes[l.len] = b;
-        l.len += 1;
-    }
+    l.bytes.push(b);
     l
 }
 
@@ -52,8 +53,8 @@ pub fn push_bytes(mut l: Line, s: &[u8]) -> Line
 {
     let at = size(l);
     let n = s.len().min(64 - at);
-    l.bytes[at..at + n].copy_from_slice(&s[..n]);
-    l.len = at + n;
+    l.bytes.items[at..at + n].copy_from_slice(&s[..n]);
+    l.bytes.len = at + n;
     l
 }
 
@@ -110,6 +111,6 @@ pub fn append(out: &mut [u8], at: usize, l: Line) -> Option<usize>
     if out.len() < end {
         return None;
     }
-    out[at..end].copy_from_slice(&l.bytes[..n]);
+    out[at..end].copy_from_slice(bytes(&l));
     Some(end)
 }

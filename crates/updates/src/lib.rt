@@ -3,8 +3,7 @@
 #![tactic(auto)]
 
 ghost use Rattle.chain.specs.Tables.{entries, size};
-ghost use Rattle.machine.specs.Acts.{Does};
-ghost use Rattle.entry.specs.Premise.{Sane, DoesAll};
+ghost use Rattle.machine.specs.Acts.{Does, DoesAll};
 ghost use Rattle.updates.specs.Updates.{power, attest, defer, confirm, commit_timeout, update_verified, update_rejected};
 
 use chain::Chain;
@@ -12,7 +11,6 @@ use machine::Work;
 use model::{ComponentId, Effect, PowerOnResult};
 
 pub fn power_good(chain: Chain, w: Work, res: PowerOnResult) -> Work
-    requires { Sane chain w }
     ensures { Does (size chain) w (power (entries chain) res) result }
 {
     match res {
@@ -55,19 +53,17 @@ pub fn commit_timeout(w: Work) -> Work
     w
 }
 
-pub fn update_verified(chain: Chain, mut w: Work) -> Work
-    requires { Sane chain w }
-    ensures { Does (size chain) w update_verified result }
+pub fn update_verified(mut w: Work) -> Work
+    ensures { DoesAll w update_verified result }
 {
     w.sink.emit(Effect::ActivateUpdate);
     w.rot.pending_commit = true;
-    entry::enter_ready(chain, w)
+    entry::enter_ready(w)
 }
 
-pub fn update_rejected(chain: Chain, mut w: Work) -> Work
-    requires { Sane chain w }
-    ensures { Does (size chain) w update_rejected result }
+pub fn update_rejected(mut w: Work) -> Work
+    ensures { DoesAll w update_rejected result }
 {
     w.sink.emit(Effect::DiscardStaged);
-    entry::enter_ready(chain, w)
+    entry::enter_ready(w)
 }

@@ -8,7 +8,8 @@ use components::{Answer, ComponentList};
 use std::io;
 use std::io::{Read, Stdout};
 
-// The line so far: its entries, the numbers of the entry at hand behind the length, and the number at hand.
+// The line so far: its entries, the numbers of the entry at hand behind the length, and the number at hand. Six numbers, and
+// never more: an array.
 #[derive(Clone, Copy)]
 struct Line {
     list: ComponentList,
@@ -64,6 +65,8 @@ fn feed(out: Stdout, line: &mut Line, chunk: &[u8]) -> io::Result<()> {
     Ok(())
 }
 
+// `steps` reads its input by the same six lines: what each feeds is its own, and a closure over the output and the line would
+// say more than they do.
 fn main(rt: HostRuntime) -> io::Result<()> {
     let mut input = rt.stdin();
     let mut line = new_line();

@@ -5,10 +5,9 @@
 ghost use Rattle.std.specs.Prelude.{◌≡◌};
 ghost use Rattle.chain.specs.Tables.{entries, size};
 ghost use Rattle.machine.specs.Acts.{Does};
-ghost use Rattle.entry.specs.Premise.{Placed};
 ghost use Rattle.walks.specs.Walks.{released_in, pass, verify_failed, progress, awaited, component_ready};
 
-use chain::Chain;
+use chain::Member;
 use machine::Work;
 use model::{ComponentId, ComponentKind, Effect, State};
 use store::Status;
@@ -24,50 +23,48 @@ fn released_in(state: State, kind: ComponentKind, id: ComponentId) -> State
 }
 
 // Only the component under the cursor is released: a verdict on any other is stale or out of turn.
-pub fn verification_passed(chain: Chain, w: Work, id: ComponentId, p: usize) -> Work
-    requires { Placed chain w id p }
-    ensures { Does (size chain) w (pass (entries chain) id) result }
+pub fn verification_passed(member: Member, w: Work) -> Work
+    ensures { Does (size member.chain) w (pass (entries member.chain) member.id) result }
 {
-    if p != w.rot.cursor {
+    if member.place != w.rot.cursor {
         return w;
     }
-    let next = released_in(w.state, chain.kind_at(p), id);
+    let next = released_in(w.state, member.kind(), member.id);
     let on = Status {
         retry: 0,
         awaiting_boot: true,
         released: true,
     };
-    let v = machine::say(w, Effect::ReleaseReset(id));
-    let u = machine::put_status(v, chain.count(), p, on);
-    entry::walk_on(chain, u, p + 1, next)
+    let v = machine::say(w, Effect::ReleaseReset(member.id));
+    let u = machine::put_status(v, member.chain.count(), member.place, on);
+    entry::walk_on(member.chain, u, member.place + 1, next)
 }
 
 // A verdict on a component that was isolated meanwhile is dropped: the walk skips it anyway.
-pub fn verification_failed(chain: Chain, w: Work, id: ComponentId, p: usize) -> Work
-    requires { Placed chain w id p }
-    ensures { Does (size chain) w (verify_failed (entries chain) id) result }
+pub fn verification_failed(member: Member, w: Work) -> Work
+    ensures { Does (size member.chain) w (verify_failed (entries member.chain) member.id) result }
 {
-    if machine::is_gated(w.rot, chain.count(), p) {
+    if machine::is_gated(w.rot, member.chain.count(), member.place) {
         return w;
     }
-    entry::enter_recovering(chain, w, id, p)
+    entry::enter_recovering(member, w)
 }
 
-pub fn clear_awaiting_boot(chain: Chain, w: Work, id: ComponentId, p: usize) -> Work
-    requires { Placed chain w id p }
-    ensures { Does (size chain) w (progress (entries chain) id) result }
+pub fn clear_awaiting_boot(member: Member, w: Work) -> Work
+    ensures { Does (size member.chain) w (progress (entries member.chain) member.id) result }
 {
-    let n = chain.count();
-    let s = machine::status_at(w.rot, n, p);
+    let n = member.chain.count();
+    let s = machine::status_at(w.rot, n, member.place);
     let up = Status {
         retry: s.retry,
         awaiting_boot: false,
         released: s.released,
     };
-    machine::put_status(w, n, p, up)
+    machine::put_status(w, n, member.place, up)
 }
 
-// The component that AwaitingReady waits for.
+// The component that AwaitingReady waits for. `recovery::recovers_in` reads another state: one function for both would have to be
+// told which.
 pub fn waits_in(state: State) -> Option<ComponentId>
     ensures { result ≡ awaited state }
 {
@@ -78,22 +75,15 @@ pub fn waits_in(state: State) -> Option<ComponentId>
 }
 
 // The readiness that AwaitingReady waits for ends the wait; any other only ends the component's own watch.
-pub fn component_ready(
-    chain: Chain,
-    w: Work,
-    id: ComponentId,
-    p: usize,
-    waits_for: Option<ComponentId>,
-) -> Work
-    requires { Placed chain w id p }
-    ensures { Does (size chain) w (component_ready (entries chain) id waits_for) result }
+pub fn component_ready(member: Member, w: Work, waits_for: Option<ComponentId>) -> Work
+    ensures { Does (size member.chain) w (component_ready (entries member.chain) member.id waits_for) result }
 {
-    let v = clear_awaiting_boot(chain, w, id, p);
-    if waits_for != Some(id) {
+    let v = clear_awaiting_boot(member, w);
+    if waits_for != Some(member.id) {
         return v;
     }
-    if v.rot.cursor < chain.count() {
+    if v.rot.cursor < member.chain.count() {
         return machine::in_state(v, State::AwaitingReady(None));
     }
-    entry::enter_ready(chain, v)
+    entry::enter_ready(v)
 }

@@ -11,9 +11,9 @@ use Rattle.advance.proofs.clear_all_retries.Goals as goal
 pub returns : goal.returns
 unfolding statuses_of
 returns c =
+    λ n.
     let w = c.args.w in
-    let fit = c.requires in
     ran-rot refl
-    (ap (λ (st : List ComponentStatus). statuses_are st (core_of c.args.n w))
-    (clear-view c.args.n (flags w.rot.isolated) w.rot.statuses c.clear_retries.ensures))
-    (record { clean = fit.clean; low = fit.low })
+    (ap (λ (st : List ComponentStatus). statuses_are st (core_of n w))
+    (clear-view n (flags w.rot.isolated) w.rot.statuses c.clear_retries.ensures))
+    (λ fit. record { clean = fit.clean; low = fit.low })

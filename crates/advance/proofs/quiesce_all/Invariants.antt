@@ -10,5 +10,5 @@ use Rattle.advance.proofs.quiesce_all.Given as goal
 abbrev pub invariant-loop-p : goal.invariant-loop-p
 invariant-loop-p l = record {
   as_many : length (statuses_of (size l.chain) l.w.rot) ≡ size l.chain;
-  leads : Leads (size l.chain) l.fn.w.sink (quieting_all (entries l.chain) (core_of (size l.chain) l.fn.w)) l.w (quiet_left (entries l.chain) l.p);
+  leads : Leads (size l.chain) l.fn.w (quieting_all (entries l.chain) (core_of (size l.chain) l.fn.w)) l.w (quiet_left (entries l.chain) l.p);
 }

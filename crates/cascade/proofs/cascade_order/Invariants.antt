@@ -7,7 +7,7 @@ use Rattle.cascade.proofs.Queue.{Going}
 use Rattle.cascade.proofs.cascade_order.Given as goal
 
 abbrev pub invariant-loop-k : goal.invariant-loop-k
-invariant-loop-k l = (l.order.count ≤ 255) × (l.order.count ≡ length (listed l.order)) × Going (entries l.chain) l.root l.k (listed l.order)
+invariant-loop-k l = (l.order.places.len ≤ 255) × (l.order.places.len ≡ length (listed l.order)) × Going (entries l.root.chain) l.root.place l.k (listed l.order)
 
 abbrev pub decreases-loop-k : goal.decreases-loop-k
 decreases-loop-k l = 255 - l.k

@@ -1,15 +1,14 @@
 -- A position that depends on the holder goes behind the others, where there is room for it, and any other is passed by.
-use Rattle.std.proofs.Common.{length-set}
+use Rattle.std.proofs.Common.{append-nil, ap, sym, List, ℕ, ◌++◌, ◌∙◌}
 use Rattle.cascade.specs.Order.{listed}
 use Rattle.cascade.proofs.Stored.{room, joins, passes}
 use Rattle.cascade.proofs.put_dependents.Goals as goal
 use Rattle.cascade.proofs.put_dependents.Goals.{then-parents-p, else-parents-p}
 
-pub bounds-order-order : goal.bounds-order-order
-bounds-order-order c =
-    let a = c.args in
-    let l = c.loop-p in
-    room a.parents.now a.holder (listed a.order.now) l.p c.if-parents-p.true a.n c.loop-p-test.true c.requires.4 l.order l.invariant.1
+pub loop-p-init : goal.loop-p-init
+loop-p-init c =
+    let before = listed c.args.order.now in
+    record { list = sym (ap (λ (l : List ℕ). before ++ l) c.requires.2 ∙ append-nil before); count = c.requires.3 }
 
 pub loop-p-preserved : goal.loop-p-preserved
 loop-p-preserved c =
@@ -17,12 +16,10 @@ loop-p-preserved c =
     let l = c.loop-p in
     elim c.if-parents-p.branch [
       | then-parents-p w ↦
-          rw w.order-is (
-            rw length-set l.invariant.0,
-            joins a.parents.now a.holder (listed a.order.now) l.p w.if-parents-p.true l.order l.invariant.0
-                (room a.parents.now a.holder (listed a.order.now) l.p w.if-parents-p.true a.n c.loop-p-test.true c.requires.4 l.order l.invariant.1)
-                l.invariant.1,
+          rw (w.order-is, w.push.ensures.0) (
+          joins a.parents.now a.holder (listed a.order.now) l.p w.if-parents-p.true l.order w.push.ensures.1
+          (room a.parents.now a.holder (listed a.order.now) l.p w.if-parents-p.true a.n c.loop-p-test.true c.requires.4 l.order l.invariant) l.invariant
           )
       | else-parents-p w ↦
-          rw w.order-is (l.invariant.0, passes a.parents.now a.holder (listed a.order.now) l.p w.if-parents-p.false l.order l.invariant.1)
+          rw w.order-is (passes a.parents.now a.holder (listed a.order.now) l.p w.if-parents-p.false l.order l.invariant)
     ]

@@ -13,8 +13,9 @@ use Rattle.corruption.proofs.handle_corruption.Goals as goal
 pub returns-then-gates_failed : goal.returns-then-gates_failed
 returns-then-gates_failed c =
     let a = c.args in
-    let ch = entries a.chain in
-    let free : iso (status_at (statuses_of (size a.chain) a.w.rot) (position ch a.id)) ≡ false = search rules in
-    let gates : gates_failed (policy_at ch a.p) ≡ true = search rules in
+    let m = a.member in
+    let ch = entries m.chain in
+    let free : iso (status_at (statuses_of (size m.chain) a.w.rot) (position ch m.id)) ≡ false = search rules in
+    let gates : gates_failed (policy_at ch m.place) ≡ true = search rules in
     rw free
-    (gated-then ch a.p (position ch a.id) (recover ch (before a.situation) a.id) (follows a.situation ch) c.requires.here gates c.gate_by_policy-v.ensures c.follow-then-gates_failed.ensures)
+    (gated-then ch m.place (position ch m.id) (recover ch (before a.situation) m.id) (follows a.situation ch) m.here gates c.gate_by_policy-v.ensures c.follow-then-gates_failed.ensures)

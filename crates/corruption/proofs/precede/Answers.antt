@@ -6,8 +6,8 @@ use Rattle.corruption.proofs.precede.Goals as goal
 
 pub returns-in-Updated : goal.returns-in-Updated
 unfolding says
-returns-in-Updated c = λ n fit. search (rules, ran-none)
+returns-in-Updated c = λ n. search (rules, ran-none)
 
 pub returns-in-Walking : goal.returns-in-Walking
 unfolding says
-returns-in-Walking c = λ n fit. search (rules, ran-none)
+returns-in-Walking c = λ n. search (rules, ran-none)

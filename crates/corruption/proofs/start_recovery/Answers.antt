@@ -5,4 +5,4 @@ use Rattle.entry.specs.Entry.{enter_recovering}
 use Rattle.corruption.proofs.start_recovery.Goals as goal
 
 pub returns : goal.returns
-returns c = ran_then (enter_recovering (entries c.args.chain) c.args.id) (c.precede-v.ensures _ c.requires.sane.fit) c.enter_recovering.ensures
+returns c = ran_then (enter_recovering (entries c.args.member.chain) c.args.member.id) (c.precede-v.ensures _) c.enter_recovering.ensures

@@ -2,6 +2,7 @@
 use Rattle.std.proofs.Common.{rules, arith, ◌<◌, ◌^◌, length-append, append_assoc}
 use Rattle.text.proofs.Decimal.{decimal-short, decimal-below}
 use Rattle.text.proofs.Laws.{grown, exactly}
+use Rattle.printed.proofs.Wider.{widened}
 use Rattle.effect_lines.proofs.Short.{cause-short}
 use Rattle.effect_lines.proofs.boot_line.Goals as goal
 
@@ -9,5 +10,5 @@ pub returns : goal.returns
 returns c =
     let a = c.args in
     let small : a.id.0 < 10 ^ 3 = search rules in
-    exactly _ (grown (grown (grown (grown c.start.ensures c.push_number-l.ensures) c.push_number.ensures) c.push_cause-l.ensures) c.push.ensures) (simp append_assoc)
+    exactly _ (grown (grown (grown (grown c.start.ensures (widened a.id.0 c.push_number-l.ensures c.from.ensures)) (widened a.checkpoint c.push_number.ensures c.from-2.ensures)) c.push_cause-l.ensures) c.push.ensures) (simp append_assoc)
     (simp length-append (omega (arith, decimal-below 2 a.id.0 small, decimal-short a.checkpoint, cause-short a.kind)))

@@ -6,4 +6,4 @@ use Rattle.machine.proofs.Runs.{ran-none, ran-emit, ran-state}
 use Rattle.entry.proofs.enter_locked.Goals as goal
 
 pub returns : goal.returns
-returns c = λ n fit. ran-emit LatchLockdown (ran-state Locked (ran-none fit) refl) c.emit.ensures
+returns c = λ n. ran-emit LatchLockdown (ran-state Locked ran-none refl) c.emit.ensures

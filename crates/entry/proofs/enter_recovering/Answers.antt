@@ -1,7 +1,8 @@
 -- `enter_recovering` meets its contract: the flags, the window, the state, then one effect with the retry count.
-use Rattle.std.proofs.Common.{◌≤◌, false, refl, sym, ap, length-take, arith}
+use Rattle.std.proofs.Common.{◌≤◌, false, refl, sym, ap, rules}
 use Rattle.model.specs.declared.State.TheVariants.{Recovering}
 use Rattle.chain.specs.Tables.{entries, size}
+use Rattle.chain.proofs.Room.{few}
 use Rattle.machine.specs.declared.ComponentStatus.{ComponentStatus}
 use Rattle.machine.specs.Status.{quiet}
 use Rattle.machine.specs.View.{core_of}
@@ -12,10 +13,11 @@ use Rattle.entry.proofs.enter_recovering.Goals as goal
 
 pub returns : goal.returns
 returns c =
-    let a = c.args in
-    let n = size a.chain in
+    let m = c.args.member in
+    let w = c.args.w in
+    let n = size m.chain in
     let own = c.well_formed.1.0 in
-    let few : n ≤ 255 = omega (arith, c.requires.sane.sound.few, length-take a.chain.list.len a.chain.list.entries) in
-    let retry = ap (λ (x : ComponentStatus). x.retry) (sym (stored_at n a.w a.p own few c.requires.inside)) in
-    ran-as (recovering-as (entries a.chain) a.id a.p _ (core_of n a.w) c.requires.here retry)
-    (ran-emit _ (ran-state (Recovering a.id) (ran-window false (ran-change n a.w a.p own few c.requires.inside quiet off (λ b s. refl) c.requires.sane.fit) refl) refl) c.emit.ensures)
+    let short : n ≤ 255 = few m.chain.list (search rules) in
+    let retry = ap (λ (x : ComponentStatus). x.retry) (sym (stored_at n w m.place own short m.inside)) in
+    ran-as (recovering-as (entries m.chain) m.id m.place _ (core_of n w) m.here retry)
+    (ran-emit _ (ran-state (Recovering m.id) (ran-window false (ran-change n w m.place own short m.inside quiet off (λ b s. refl)) refl) refl) c.emit.ensures)

@@ -6,6 +6,4 @@ use Rattle.machine.proofs.Runs.{ran-none, ran-emit, ran-state, ran-window}
 use Rattle.entry.proofs.enter_updating.Goals as goal
 
 pub returns : goal.returns
-returns c =
-    λ n fit.
-    ran-emit StageUpdate (ran-emit AuthenticateUpdate (ran-state Updating (ran-window false (ran-none fit) refl) refl) c.emit.ensures) c.emit-2.ensures
+returns c = λ n. ran-emit StageUpdate (ran-emit AuthenticateUpdate (ran-state Updating (ran-window false ran-none refl) refl) c.emit.ensures) c.emit-2.ensures

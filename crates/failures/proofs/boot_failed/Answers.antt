@@ -25,18 +25,18 @@ returns-then-not-status_at c = search (rules, ran-none)
 pub returns-then-eq : goal.returns-then-eq
 returns-then-eq c =
     let a = c.args in
-    let ch = entries a.chain in
-    let waits : (status_at (statuses_of (size a.chain) a.w.rot) (position ch a.id)).awaiting_boot ≡ true = search rules in
+    let ch = entries a.member.chain in
+    let waits : (status_at (statuses_of (size a.member.chain) a.w.rot) (position ch a.member.id)).awaiting_boot ≡ true = search rules in
     let fatal : a.failure.kind ≡ DeviceFatal = search rules in
-    let said = ran-say (ReportBootFailed a.id a.failure.checkpoint a.failure.kind) (ran-none c.requires.sane.fit) c.say-v.ensures in
-    let done = ran_then (corrupt ch (follows a.situation ch) (before a.situation) a.id) said c.handle_corruption.ensures in
+    let said = ran-say (ReportBootFailed a.member.id a.failure.checkpoint a.failure.kind) ran-none c.say-v.ensures in
+    let done = ran_then (corrupt ch (follows a.situation ch) (before a.situation) a.member.id) said c.handle_corruption.ensures in
     rw (waits, fatal) (rw fatal at done)
 
 pub returns : goal.returns
 returns c =
     let a = c.args in
-    let ch = entries a.chain in
-    let waits : (status_at (statuses_of (size a.chain) a.w.rot) (position ch a.id)).awaiting_boot ≡ true = search rules in
+    let ch = entries a.member.chain in
+    let waits : (status_at (statuses_of (size a.member.chain) a.w.rot) (position ch a.member.id)).awaiting_boot ≡ true = search rules in
     let other : a.failure.kind ≡ DeviceFatal → ⊥ = search rules in
-    let said = ran-say (ReportBootFailed a.id a.failure.checkpoint a.failure.kind) (ran-none c.requires.sane.fit) c.say-v.ensures in
-    rw (waits, not-fatal a.failure.kind _ _ other) (ran_then (recover ch (before a.situation) a.id) said c.start_recovery.ensures)
+    let said = ran-say (ReportBootFailed a.member.id a.failure.checkpoint a.failure.kind) ran-none c.say-v.ensures in
+    rw (waits, not-fatal a.failure.kind _ _ other) (ran_then (recover ch (before a.situation) a.member.id) said c.start_recovery.ensures)

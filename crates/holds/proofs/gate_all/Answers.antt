@@ -13,10 +13,11 @@ loop-p-preserved c =
     let ch = entries c.args.chain in
     let ps = listed c.args.order in
     let i = c.loop-p.p-index in
-    leads-next (gating ch (get_or ps i 0)) (gating_all ch (drop (i + 1) ps)) c.gate_one-w.ensures
-    (gate-next ch (core_of (size c.args.chain) c.loop-p.w) ps i c.loop-p-test.true) c.loop-p.invariant
+    let e = c.as_slice-p-items.ensures in
+    leads-next (gating ch (get_or ps i 0)) (gating_all ch (drop (i + 1) ps)) (rw e at c.gate_one-w.ensures)
+    (gate-next ch (core_of (size c.args.chain) c.loop-p.w) ps i (rw e at c.loop-p-test.true)) c.loop-p.invariant
 
 pub returns : goal.returns
 returns c =
     leads-last c.loop-p.invariant
-    (gate-end (entries c.args.chain) (core_of (size c.args.chain) c.loop-p.w) (listed c.args.order) c.loop-p.p-index c.loop-p-test.false)
+    (gate-end (entries c.args.chain) (core_of (size c.args.chain) c.loop-p.w) (listed c.args.order) c.loop-p.p-index (rw c.as_slice-p-items.ensures at c.loop-p-test.false))

@@ -9,4 +9,4 @@ use Rattle.holds.proofs.gate_all.Given as goal
 
 abbrev pub invariant-loop-p : goal.invariant-loop-p
 invariant-loop-p l =
-    Leads (size l.chain) l.fn.w.sink (gating_all (entries l.chain) (listed l.fn.order) (core_of (size l.chain) l.fn.w)) l.w (gating_all (entries l.chain) (drop l.p-index (listed l.fn.order)))
+    Leads (size l.chain) l.fn.w (gating_all (entries l.chain) (listed l.fn.order) (core_of (size l.chain) l.fn.w)) l.w (gating_all (entries l.chain) (drop l.p-index (listed l.fn.order)))

@@ -12,7 +12,7 @@ pub returns-then-is_gated : goal.returns-then-is_gated
 returns-then-is_gated c =
     let a = c.args in
     let e : iso (status_at (statuses_of (size a.chain) a.w.rot) a.p) ≡ true = cc (c.count-n.ensures.0) in
-    ran-as (gate-again (entries a.chain) a.p (core_of (size a.chain) a.w) e) (ran-none c.requires.1)
+    ran-as (gate-again (entries a.chain) a.p (core_of (size a.chain) a.w) e) ran-none
 
 pub returns : goal.returns
 returns c =

@@ -18,11 +18,10 @@ returns c =
     let w = c.args.w in
     let n = c.args.n in
     let p = c.args.p in
-    let fit = c.requires.2 in
     let full = statuses-full w c.well_formed.0 in
     let bits = length-flags w.rot.isolated (words-four w c.well_formed.0) in
     let now-in = c.insert-w.ensures in
     ran-rot refl
     (ap (λ (st : List ComponentStatus). statuses_are st (core_of n w))
     (change-view n (flags w.rot.isolated) w.rot.statuses (omega arith) (omega arith) p isolate off true now-in (λ s. refl) (omega arith)))
-    (record { clean = ap (drop n) now-in ∙ drop-set-lt n (flags w.rot.isolated) p true (omega arith) ∙ fit.clean; low = fit.low })
+    (λ fit. record { clean = ap (drop n) now-in ∙ drop-set-lt n (flags w.rot.isolated) p true (omega arith) ∙ fit.clean; low = fit.low })

@@ -20,4 +20,4 @@ pub returns-in_default : goal.returns-in_default
 returns-in_default c =
     let a = c.args in
     let past : 1 ≤ a.rule → 22 ≤ a.rule = λ h. omega arith in
-    ran-as (no_number (entries a.chain) a.max_retry a.event a.id (core_of (size a.chain) a.w) a.rule past) (ran-none c.requires.sane.fit)
+    ran-as (no_number (entries a.member.chain) a.max_retry a.event a.member.id (core_of (size a.member.chain) a.w) a.rule past) ran-none

@@ -14,14 +14,14 @@ use Rattle.recovery.proofs.exhaust_recovery.Goals as goal
 pub returns-then-gates_failed : goal.returns-then-gates_failed
 returns-then-gates_failed c =
     let a = c.args in
-    let ch = entries a.chain in
-    let gates : gates_failed (policy_at ch a.p) ≡ true = search rules in
-    gated-then ch a.p (position ch a.id) (give_up a.id) (start_over ch a.id) c.requires.here gates c.gate_by_policy-v.ensures c.start_over.ensures
+    let ch = entries a.member.chain in
+    let gates : gates_failed (policy_at ch a.member.place) ≡ true = search rules in
+    gated-then ch a.member.place (position ch a.member.id) (give_up a.member.id) (start_over ch a.member.id) a.member.here gates c.gate_by_policy-v.ensures c.start_over.ensures
 
 pub returns : goal.returns
 returns c =
     let a = c.args in
-    let ch = entries a.chain in
-    let spares : gates_failed (policy_at ch a.p) ≡ false = search rules in
-    let reported = ran-say (ReportRecoveryFailed a.id) (ran-none c.requires.sane.fit) c.say-u.ensures in
-    ungated-then ch a.p (position ch a.id) (give_up a.id) (start_over ch a.id) c.requires.here spares (ran-say (Emit RecoveryFailed) reported c.say.ensures)
+    let ch = entries a.member.chain in
+    let spares : gates_failed (policy_at ch a.member.place) ≡ false = search rules in
+    let reported = ran-say (ReportRecoveryFailed a.member.id) ran-none c.say-u.ensures in
+    ungated-then ch a.member.place (position ch a.member.id) (give_up a.member.id) (start_over ch a.member.id) a.member.here spares (ran-say (Emit RecoveryFailed) reported c.say.ensures)

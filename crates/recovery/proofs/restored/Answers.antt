@@ -15,17 +15,17 @@ returns-then-ne c = search (rules, tests, ran-none)
 pub returns-then-retry-max_retry : goal.returns-then-retry-max_retry
 returns-then-retry-max_retry c =
     let a = c.args in
-    let ch = entries a.chain in
-    let own : a.target ≡ Some a.id = search rules in
-    let up : bump (status_at (statuses_of (size a.chain) a.w.rot) (position ch a.id)).retry ≡ c.bump_retry-retry.result = search rules in
-    rw (own, eq-eqb a.id.0 a.id.0 refl, up, lt-ltb _ a.max_retry c.if-retry-max_retry.true)
+    let ch = entries a.member.chain in
+    let own : a.target ≡ Some a.member.id = search rules in
+    let up : bump (status_at (statuses_of (size a.member.chain) a.w.rot) (position ch a.member.id)).retry ≡ c.bump_retry-retry.result = search rules in
+    rw (own, eq-eqb a.member.id.0 a.member.id.0 refl, up, lt-ltb _ a.max_retry c.if-retry-max_retry.true)
     (ran-still (enter_walk ch) c.set_retry-v.ensures c.enter_walk.ensures)
 
 pub returns : goal.returns
 returns c =
     let a = c.args in
-    let ch = entries a.chain in
-    let own : a.target ≡ Some a.id = search rules in
-    let up : bump (status_at (statuses_of (size a.chain) a.w.rot) (position ch a.id)).retry ≡ c.bump_retry-retry.result = search rules in
-    rw (own, eq-eqb a.id.0 a.id.0 refl, up, le-ltb _ a.max_retry c.if-retry-max_retry.false)
-    (ran-still (exhausted ch a.id) c.set_retry-v.ensures c.exhaust_recovery.ensures)
+    let ch = entries a.member.chain in
+    let own : a.target ≡ Some a.member.id = search rules in
+    let up : bump (status_at (statuses_of (size a.member.chain) a.w.rot) (position ch a.member.id)).retry ≡ c.bump_retry-retry.result = search rules in
+    rw (own, eq-eqb a.member.id.0 a.member.id.0 refl, up, le-ltb _ a.max_retry c.if-retry-max_retry.false)
+    (ran-still (exhausted ch a.member.id) c.set_retry-v.ensures c.exhaust_recovery.ensures)

@@ -5,4 +5,4 @@ use Rattle.entry.specs.Entry.{enter_walk}
 use Rattle.recovery.proofs.start_over.Goals as goal
 
 pub returns : goal.returns
-returns c = ran-still (enter_walk (entries c.args.chain)) c.set_retry-v.ensures c.enter_walk.ensures
+returns c = ran-still (enter_walk (entries c.args.member.chain)) c.set_retry-v.ensures c.enter_walk.ensures

@@ -8,9 +8,10 @@ use Rattle.model.specs.declared.State.{State}
 use Rattle.model.specs.declared.Event.{Event}
 use Rattle.model.proofs.Arrays.{unmap}
 use Rattle.components.specs.Chain.{position, id_at, Sound}
+use Rattle.components.proofs.Accepted.{accepted-sound}
 use Rattle.components.proofs.Lookup.{own-place}
 use Rattle.chain.specs.declared.Chain.{Chain}
-use Rattle.chain.specs.Tables.{entries, size}
+use Rattle.chain.specs.Tables.{entries, size, Accepted}
 use Rattle.chain.proofs.Room.{all-kept, few}
 use Rattle.store.specs.declared.Sink.{Sink}
 use Rattle.store.specs.Sink.{held}
@@ -61,35 +62,36 @@ stepped c max s rot e full sound statuses words k z slots r d =
       fit = d.fit;
     }
 
+-- The chain is accepted, so that it is sound.
+sound_of : (c : Chain) → Accepted c → Sound c.list.len (entries c)
+sound_of c taken = accepted-sound c.list.len (entries c) taken
+
 pub returns-then-idles : goal.returns-then-idles
 returns-then-idles c =
     let a = c.args in
-    let answered = c.idles.ensures.1 a.chain refl c.requires.charted c.count.ensures.0 in
-    idle-stepped a.chain a.max_retry a.state a.rot a.event c.requires.fit (sym answered ∙ c.if-idles.true) _ refl
+    let answered = c.idles.ensures.1 a.chain refl c.count.ensures.0 in
+    idle-stepped a.chain a.max_retry a.state a.rot a.event (sym answered ∙ c.if-idles.true) _ refl
 
-pub apply-requires : goal.apply-requires
-apply-requires c =
+pub invariant_of-member : goal.invariant_of-member
+invariant_of-member c =
     let a = c.args in
     let full : length a.chain.list.entries ≡ 255 = search (rules, unmap) in
-    let answered = c.idles.ensures.1 a.chain refl c.requires.charted c.count.ensures.0 in
-    let within = inside a.chain a.state a.event c.about-id.result full c.requires.sound (sym answered ∙ c.if-idles.false) c.about-id.ensures in
-    record {
-      sane = record { charted = c.requires.charted; sound = c.requires.sound; fit = c.requires.fit };
-      here = c.position.ensures;
-      inside = omega (arith, within, c.position.ensures);
-    }
+    let answered = c.idles.ensures.1 a.chain refl c.count.ensures.0 in
+    let within = inside a.chain a.state a.event c.about-id.result full (sound_of a.chain c.requires) (sym answered ∙ c.if-idles.false) c.about-id.ensures in
+    record { accepted = c.requires; here = c.position.ensures; inside = omega (arith, within, c.position.ensures) }
 
 pub returns : goal.returns
 returns c =
     let a = c.args in
     let ch = entries a.chain in
+    let sound = sound_of a.chain c.requires in
     let full : length a.chain.list.entries ≡ 255 = search (rules, unmap) in
     let statuses : length a.rot.statuses ≡ 255 = search (rules, unmap) in
     let words : length a.rot.isolated.words ≡ 4 = search rules in
     let slots : length a.sink.effects ≡ 512 = search (rules, unmap) in
-    let answered = c.idles.ensures.1 a.chain refl c.requires.charted c.count.ensures.0 in
-    let within = inside a.chain a.state a.event c.about-id.result full c.requires.sound (sym answered ∙ c.if-idles.false) c.about-id.ensures in
-    stepped a.chain a.max_retry a.state a.rot a.event full c.requires.sound statuses words _ refl slots _
+    let answered = c.idles.ensures.1 a.chain refl c.count.ensures.0 in
+    let within = inside a.chain a.state a.event c.about-id.result full sound (sym answered ∙ c.if-idles.false) c.about-id.ensures in
+    stepped a.chain a.max_retry a.state a.rot a.event full sound statuses words _ refl slots _
     (ran-as
-    (step-inside ch a.max_retry (core_of (size a.chain) (bare a.state a.rot)) a.event (id_at ch 0) c.about-id.result c.rule_number-rule.result c.about-id.ensures c.rule_number-rule.ensures.0 within)
+    (step-inside ch a.max_retry (core_of (size a.chain) (bare a.state a.rot)) a.event (id_at ch 0) c.about-id.result c.rule_number.result c.about-id.ensures c.rule_number.ensures.0 within)
     c.apply.ensures)

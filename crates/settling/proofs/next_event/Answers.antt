@@ -17,8 +17,8 @@ returns-then-is_some c =
       | then-is_some-via-else-is_some+then-m w ↦
           let none : (view m).waiting ≡ None = view-waiting m ∙ none_waits m.dispatch.waiting cc in
           let slots : length m.work.sink.effects ≡ 512 = search rules in
-          let full : length (held m.work.sink) ≡ m.work.sink.len = held-length m.work.sink slots c.requires.room in
-          sym (taken-by (view m) None (next_effect m ∷ after m) (view m).queue none (left-some m c.requires full w.if-m.true) refl)
+          let full : length (held m.work.sink) ≡ m.work.sink.len = held-length m.work.sink slots m.room in
+          sym (taken-by (view m) None (next_effect m ∷ after m) (view m).queue none (left-some m full w.if-m.true) refl)
     ]
 
 pub returns : goal.returns
@@ -26,4 +26,4 @@ returns c =
     let m = c.args.m in
     let none : (view m).waiting ≡ None = view-waiting m ∙ none_waits m.dispatch.waiting cc in
     c.front.ensures ∙ taken-front (events m.dispatch.pending)
-    ∙ sym (taken-by (view m) None [] (events m.dispatch.pending) none (left-none m c.requires c.if-m.false) (view-queue m))
+    ∙ sym (taken-by (view m) None [] (events m.dispatch.pending) none (left-none m c.if-m.false) (view-queue m))

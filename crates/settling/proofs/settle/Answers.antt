@@ -5,20 +5,20 @@ use Rattle.settling.proofs.Looped.{turning, turned_none, turned_more, turned-eno
 use Rattle.settling.proofs.settle.Goals as goal
 
 pub loop-init : goal.loop-init
-loop-init c = (c.requires, turned_none c.args.m c.requires)
+loop-init c = turned_none c.args.m
 
 pub returns-then-at_rest : goal.returns-then-at_rest
 returns-then-at_rest c =
     let l = c.loop in
-    turned-rested c.args.m l.m l.counter c.requires (omega arith) l.invariant.1 (c.at_rest.ensures c.if-at_rest.true)
+    turned-rested c.args.m l.m l.counter (omega arith) l.invariant (c.at_rest.ensures c.if-at_rest.true)
 
 pub loop-preserved : goal.loop-preserved
 loop-preserved c =
     let l = c.loop in
-    (c.requires, turned_more c.args.m l.m c.turn-m.result l.counter l.invariant.1 c.turn-m.ensures)
+    turned_more c.args.m l.m c.turn-m.result l.counter l.invariant c.turn-m.ensures
 
 pub returns : goal.returns
 returns c =
     let l = c.loop in
     let all : l.counter ≡ 521 = omega arith in
-    becomes-as l.invariant.1 (ap (turning c.args.m) all ∙ turned-enough c.args.m c.requires)
+    becomes-as l.invariant (ap (turning c.args.m) all ∙ turned-enough c.args.m)

@@ -1,8 +1,8 @@
 -- `begin` meets its contract: the event stands alone in the queue and is settled, or the call is refused.
-use Rattle.std.proofs.Common.{[], ◌∷◌, sym, ◌∙◌, subst, arith}
+use Rattle.std.proofs.Common.{[], ◌∷◌, refl, sym, ◌∙◌, subst, arith}
 use Rattle.settling.specs.Settle.{queue_is}
 use Rattle.settling.specs.View.{view}
-use Rattle.settling.proofs.Views.{puts, view-waiting}
+use Rattle.settling.proofs.Views.{view-waiting}
 use Rattle.sm.specs.declared.CallError.TheVariants.{NotDone}
 use Rattle.sm.specs.Calls.{Expected}
 use Rattle.sm.specs.Gives.{CallGives}
@@ -13,13 +13,7 @@ pub returns-then-not-is_done : goal.returns-then-not-is_done
 returns-then-not-is_done c =
     let m = c.args.machine in
     let d = sym c.is_done.ensures ∙ c.if-not-is_done.true in
-    subst (λ (x : Expected). CallGives m x c.report.result) (sym (begin-refused m c.requires c.args.event d)) (refuses m NotDone c.report.result c.requires c.report.ensures)
-
-pub settle-requires : goal.settle-requires
-settle-requires c =
-    let m = c.args.machine in
-    let d = sym c.is_done.ensures ∙ c.if-not-is_done.false in
-    (begun m c.requires c.args.event d c.enqueue-machine.result c.enqueue-machine.ensures).whole
+    subst (λ (x : Expected). CallGives m x c.report.result) (sym (begin-refused m c.args.event d)) (refuses m NotDone c.report.result c.report.ensures)
 
 pub returns : goal.returns
 returns c =
@@ -27,5 +21,5 @@ returns c =
     let e = c.args.event in
     let d = sym c.is_done.ensures ∙ c.if-not-is_done.false in
     let q = c.enqueue-machine in
-    subst (λ (x : Expected). CallGives m x c.report-2.result) (sym (begin-done m c.requires e d))
-    (settles m (puts q.result m) c.settle.result (queue_is (e ∷ []) (view m)) c.report-2.result (begun m c.requires e d q.result q.ensures) (view-waiting m ∙ begun-idle m c.requires e d) (omega arith) c.settle.ensures c.report-2.ensures)
+    subst (λ (x : Expected). CallGives m x c.report-2.result) (sym (begin-done m e d))
+    (settles m _ c.settle.result (queue_is (e ∷ []) (view m)) c.report-2.result (begun m e d _ ((refl, refl), refl) q.ensures) (view-waiting m ∙ begun-idle m e d) (omega arith) c.settle.ensures c.report-2.ensures)

@@ -1,4 +1,4 @@
--- `isolated_count` meets its contract: of a valid machine no position past the chain is counted.
+-- `isolated_count` meets its contract: no position past the chain is counted.
 use mathlib.Core.Path.{◌≡◌, ◌∙◌}
 use lib.ListN.{length}
 use borrow.Author.Rules.{rules}
@@ -10,4 +10,4 @@ returns c =
     let m = c.args.m in
     let full : length m.work.rot.statuses ≡ 255 = search rules in
     let e = c.count.ensures.0 in
-    (e, λ v. e ∙ count-says m full v)
+    (e, e ∙ count-says m full)

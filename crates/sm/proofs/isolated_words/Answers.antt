@@ -1,4 +1,4 @@
--- `isolated_words` meets its contract: of a valid machine the words' digits are the statuses' isolation.
+-- `isolated_words` meets its contract: the words' digits are the statuses' isolation.
 use mathlib.Core.Path.{◌≡◌, ◌∙◌}
 use lib.ListN.{length}
 use borrow.Author.Rules.{rules}
@@ -10,4 +10,4 @@ returns c =
     let m = c.args.m in
     let full : length m.work.rot.statuses ≡ 255 = search rules in
     let e = c.isolated_words.ensures in
-    (e.0, λ v. e.1 ∙ words-say m full v)
+    (e.0, e.1 ∙ words-say m full)

@@ -3,7 +3,7 @@ use Rattle.std.proofs.Common.{arith, ◌≡◌, refl, ap, ◌∙◌, ◌<◌, le
 use Rattle.std.proofs.Math.Seq.{take_all}
 use Rattle.std.proofs.lemmas.Slice.{put_mid-paste}
 use Rattle.text.specs.Lines.{text_of}
-use Rattle.text.proofs.Laws.{fitted, unfitted, first-bytes}
+use Rattle.text.proofs.Laws.{fitted, unfitted}
 use Rattle.text.proofs.append.Goals as goal
 
 pub returns-in_err-end : goal.returns-in_err-end
@@ -23,7 +23,7 @@ returns c =
     let s = text_of a.l in
     let sized : c.size-n.result ≡ length s = c.size-n.ensures in
     let whole : take (length s) s ≡ s = take_all (length s) s (omega arith) in
-    let copied : c.copy_from_slice.new.self ≡ s = c.copy_from_slice.ensures.after ∙ first-bytes a.l _ sized in
+    let copied : c.copy_from_slice.new.self ≡ s = c.copy_from_slice.ensures.after ∙ c.bytes.ensures in
     let put = fitted a.out.now a.at s (omega (arith, c.in_ok-end.ensures)) in (
       ap Some (omega (arith, c.in_ok-end.ensures)) ∙ put.0,
       put_mid-paste a.at _ a.out.now _ s (length s) copied (omega (arith, c.in_ok-end.ensures)) refl ∙ rw whole put.1,

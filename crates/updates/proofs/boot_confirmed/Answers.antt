@@ -5,4 +5,4 @@ use Rattle.machine.proofs.Runs.{ran-none, ran-emit, ran-window}
 use Rattle.updates.proofs.boot_confirmed.Goals as goal
 
 pub returns : goal.returns
-returns c = λ n fit. ran-window false (ran-emit (CommitSvnFloor c.args.id) (ran-none fit) c.emit.ensures) refl
+returns c = λ n. ran-window false (ran-emit (CommitSvnFloor c.args.id) ran-none c.emit.ensures) refl

@@ -4,4 +4,4 @@ use Rattle.machine.proofs.Runs.{ran-none, ran-emit}
 use Rattle.updates.proofs.update_deferred.Goals as goal
 
 pub returns : goal.returns
-returns c = λ n fit. ran-emit ReportUpdateDeferred (ran-none fit) c.emit.ensures
+returns c = λ n. ran-emit ReportUpdateDeferred ran-none c.emit.ensures

@@ -5,4 +5,4 @@ use Rattle.entry.specs.Entry.{enter_ready}
 use Rattle.updates.proofs.update_rejected.Goals as goal
 
 pub returns : goal.returns
-returns c = ran_then enter_ready (ran-emit DiscardStaged (ran-none c.requires.fit) c.emit.ensures) c.enter_ready.ensures
+returns c = λ n. ran_then enter_ready (ran-emit DiscardStaged ran-none c.emit.ensures) (c.enter_ready.ensures n)

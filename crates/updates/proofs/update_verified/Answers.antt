@@ -6,4 +6,4 @@ use Rattle.entry.specs.Entry.{enter_ready}
 use Rattle.updates.proofs.update_verified.Goals as goal
 
 pub returns : goal.returns
-returns c = ran_then enter_ready (ran-window true (ran-emit ActivateUpdate (ran-none c.requires.fit) c.emit.ensures) refl) c.enter_ready.ensures
+returns c = λ n. ran_then enter_ready (ran-window true (ran-emit ActivateUpdate ran-none c.emit.ensures) refl) (c.enter_ready.ensures n)

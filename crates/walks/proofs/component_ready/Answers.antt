@@ -11,7 +11,7 @@ pub returns : goal.returns
 returns c =
     let a = c.args in
     let d = c.clear_awaiting_boot-v.ensures in
-    let own : a.waits_for ≡ Some a.id = search rules in
+    let own : a.waits_for ≡ Some a.member.id = search rules in
     let end = ap (λ (k : Core). k.cursor) d.core in
-    rw (own, eq-eqb a.id.0 a.id.0 refl, le-ltb a.w.rot.cursor (size a.chain) (omega (arith, end, c.count.ensures.0, c.if-v-count.false)))
-    (ran-still enter_ready d c.enter_ready.ensures)
+    rw (own, eq-eqb a.member.id.0 a.member.id.0 refl, le-ltb a.w.rot.cursor (size a.member.chain) (omega (arith, end, c.count.ensures.0, c.if-v-count.false)))
+    (ran-still enter_ready d (c.enter_ready.ensures (size a.member.chain)))

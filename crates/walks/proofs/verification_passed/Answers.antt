@@ -9,14 +9,14 @@ use Rattle.entry.specs.Entry.{onward}
 use Rattle.entry.proofs.Compose.{does_at}
 use Rattle.walks.proofs.verification_passed.Goals as goal
 
-pub returns-then-p-w : goal.returns-then-p-w
-returns-then-p-w c = search (rules, tests, ran-none)
+pub returns-then-member-w : goal.returns-then-member-w
+returns-then-member-w c = search (rules, tests, ran-none)
 
 pub returns : goal.returns
 returns c =
-    let a = c.args in
+    let m = c.args.member in
     let up : Status = record { retry = 0; awaiting_boot = true; released = true } in
-    let said = ran-say (ReleaseReset a.id) (ran-none c.requires.sane.fit) c.say-v.ensures in
-    let put = does_at (putting up a.p) c.count.ensures.0 c.put_status-u.ensures in
-    rw (← c.requires.here, eq-eqb a.p a.w.rot.cursor c.if-p-w.false, ← add-one a.p, ← c.kind_at.ensures, ← c.released_in-next.ensures)
-    (ran_then (onward (entries a.chain) (a.p + 1) c.released_in-next.result) (ran_then (putting up a.p) said put) c.walk_on.ensures)
+    let said = ran-say (ReleaseReset m.id) ran-none c.say-v.ensures in
+    let put = does_at (putting up m.place) c.count.ensures.0 c.put_status-u.ensures in
+    rw (← m.here, eq-eqb m.place c.args.w.rot.cursor c.if-member-w.false, ← add-one m.place, ← c.kind.ensures, ← c.released_in-next.ensures)
+    (ran_then (onward (entries m.chain) (m.place + 1) c.released_in-next.result) (ran_then (putting up m.place) said put) c.walk_on.ensures)

@@ -8,6 +8,6 @@ pub returns : goal.returns
 unfolding events
 returns c =
     let q = c.args.self in
-    let full : length q.entries ≡ 8 = search rules in
-    let moved : c.rotate_right.new.self ≡ drop 7 q.entries ++ take 7 q.entries = rw full at c.rotate_right.ensures.after in
-    rw (moved, c.min.ensures) (fronted q.entries q.len c.count-n.result full c.count-n.ensures.0)
+    let full : length q.entries.items ≡ 8 = search rules in
+    let moved : c.rotate_right.new.self ≡ drop 7 q.entries.items ++ take 7 q.entries.items = rw full at c.rotate_right.ensures.after in
+    rw (moved, c.min-self.ensures) (fronted q.entries.items q.entries.len c.count-n.result full c.count-n.ensures.0)

@@ -8,5 +8,5 @@ pub returns : goal.returns
 unfolding events
 returns c =
     let q = c.args.self in
-    let full : length q.entries ≡ 8 = search rules in
-    rw c.rotate_left.ensures.after (popped q.entries q.len c.count-n.result full c.count-n.ensures.0 (omega arith))
+    let full : length q.entries.items ≡ 8 = search rules in
+    rw c.rotate_left.ensures.after (popped q.entries.items q.entries.len c.count-n.result full c.count-n.ensures.0 (omega arith))

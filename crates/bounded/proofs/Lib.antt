@@ -1,0 +1,2 @@
+-- Lemmas that belong to no one function; other crates cite them.
+pub mod Laws
