@@ -9,7 +9,6 @@ ghost use Rattle.store.specs.Retry.{no_retry};
 use model::Effect;
 
 // The effects of one event: the first `len` of the array. What stands behind them means nothing.
-// No `Bounded`: with the array one level deeper a deep cascade cost ten times the instructions (docs/BENCHMARKS.md).
 #[derive(Clone, Copy)]
 pub struct Sink {
     pub effects: [Effect; 512],

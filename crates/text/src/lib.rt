@@ -16,7 +16,6 @@ pub struct Line {
 pub fn empty() -> Line
     ensures { text_of result ≡ [] }
 {
-    // Written out: `Bounded::new` fills its array item by item, and a run makes a line at every step.
     Line {
         bytes: Bounded {
             items: [0; 64],
