@@ -7,8 +7,8 @@ ghost use Rattle.components.specs.Chain.{entries_of, no_entries, pushed, positio
 use model::{Component, ComponentAttrs, ComponentId, ComponentKind, FailurePolicy};
 
 // The entries handed in. The length may be any number: what stands past it is not looked at, and of a longer list
-// the first 255 entries are kept. So it is no `Bounded`, whose length is never over its array's; both are fixed memory, since no
-// call uses the heap.
+// the first 255 entries are kept. It is no `Bounded`: one that is full takes no more, and this one then is too long, which the
+// verdict says. Both are fixed memory, since no call uses the heap.
 #[derive(Clone, Copy)]
 pub struct ComponentList {
     pub entries: [Component; 255],
