@@ -9,7 +9,6 @@ ghost use Rattle.advance.specs.Acts.{advancing, stopping, quieting_all, clearing
 use chain::Chain;
 use machine::Work;
 use model::Effect;
-use store::Status;
 
 // The cursor goes to the first component from p on that is not isolated. Its firmware is read and verified next; where
 // there is none the chain has ended.
@@ -28,16 +27,13 @@ pub fn advance_to_next_ungated(chain: Chain, mut w: Work, p: usize) -> Work
     w
 }
 
-// A component that runs is held in reset, and both its flags go off.
+// A component that runs is held in reset, and both its flags go off. By value: lent, as in `holds::gate_at`, the machine
+// was tried, and the proof found no length of the set's words, which nothing reads here.
 fn quiet_one(chain: Chain, mut w: Work, p: usize) -> Work
     requires { p < size chain }
     ensures { Does (size chain) w (stopping (entries chain) p) result }
 {
-    w.rot.statuses[p] = Status {
-        awaiting_boot: false,
-        released: false,
-        ..w.rot.statuses[p]
-    };
+    w.rot.statuses[p] = w.rot.statuses[p].off();
     w.sink.emit(Effect::AssertReset(chain.id_at(p)));
     w
 }

@@ -5,7 +5,7 @@
 use components::ComponentList;
 use model::{Component, ComponentAttrs, ComponentId, Effect, Event, PowerOnResult};
 use settling::{Machine, Reply};
-use sm::CallError;
+use sm::Called;
 use std::io;
 use std::io::Stdout;
 use text::Line;
@@ -14,30 +14,20 @@ fn put(out: Stdout, line: Line) -> io::Result<()> {
     out.write_all(text::bytes(&line))
 }
 
-// A line of a name and numbers, put together here: it is of no one type that could have a `Display`.
-fn put_numbers(out: Stdout, name: &[u8], numbers: &[u64]) -> io::Result<()> {
-    let mut line = text::push_bytes(text::empty(), name);
-    for &n in numbers {
-        line = text::push_number(line, n);
-    }
-    put(out, text::push(line, b'\n'))
-}
-
 // A refused call, with document 01's number.
-fn put_refusal(out: Stdout, name: &[u8], answer: Result<(), CallError>) -> io::Result<()> {
-    match answer {
-        Ok(()) => put_numbers(out, name, &[0]),
-        Err(error) => put_numbers(out, name, &[error.number()]),
-    }
+fn put_refusal(out: Stdout, name: &str, called: Called) -> io::Result<()> {
+    println!(out; "{name}\t{}", called.number())
 }
 
+// The output and the machine go side by side from here on. To keep them together would take a `&mut` of a struct, and each
+// function would name its two fields for what are two arguments.
 fn put_state(out: Stdout, m: Machine) -> io::Result<()> {
     put(out, printed::state_line(sm::state(m)))
 }
 
 fn put_isolated(out: Stdout, m: Machine) -> io::Result<()> {
     let words = sm::isolated_words(m);
-    put_numbers(out, b"isolated", &[sm::isolated_count(m) as u64, words[0]])
+    println!(out; "isolated\t{}\t{}", sm::isolated_count(m), words[0])
 }
 
 // What the board says to an effect: firmware that it is to verify passes, and all else is done.
@@ -48,7 +38,8 @@ fn answer_to(effect: Effect) -> Reply {
     }
 }
 
-// Answers one effect after the other until none waits. A thousand are more than any event here hands out.
+// Answers one effect after the other until none waits. A count, since no contract says after how many replies none waits, so
+// that a `while let` could not be shown to end: a thousand are more than any event here hands out.
 fn finish(out: Stdout, m: Machine) -> io::Result<Machine> {
     let mut v = m;
     for _ in 0..1000 {
@@ -73,10 +64,10 @@ fn drive(out: Stdout, m: Machine, event: Event) -> io::Result<Machine> {
 fn refuse(out: Stdout, m: Machine) -> io::Result<Machine> {
     let begun = sm::begin(m, Event::AttestationChallenge).machine;
     let early = sm::begin(begun, Event::UpdateRequest);
-    put_refusal(out, b"begin", early.answer)?;
+    put_refusal(out, "begin", early)?;
     let v = finish(out, early.machine)?;
     let late = sm::reply(v, Reply::Done);
-    put_refusal(out, b"reply", late.answer)?;
+    put_refusal(out, "reply", late)?;
     Ok(late.machine)
 }
 

@@ -4,8 +4,12 @@
 ghost use Rattle.std.specs.Prelude.{◌≡◌, ◌≤◌, length};
 ghost use Rattle.bounded.specs.Items.{items_of, no_items, appended};
 
-// The items are the first `len` of the array. What stands behind them means nothing. A length over N counts as N, so that no
-// caller has to show anything.
+// The items are the first `len` of the array. What stands behind them means nothing. A length over N counts as N, so that
+// no caller has to show anything. A ghost field that says that there is none over N was tried, and proved, its Clone
+// written by hand; but each definition that makes a list, or one list of another, would carry its proof. The fields are
+// open: what one caller does to a list (a queue is shifted, a line takes many bytes at once, a sink is emptied) it does in
+// place and is no method here. The kit's `ArrayVec` is no Copy, and a machine, which holds such lists, goes in and out by
+// value.
 #[derive(Clone, Copy)]
 pub struct Bounded<T, const N: usize> {
     pub items: [T; N],

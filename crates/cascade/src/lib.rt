@@ -17,12 +17,14 @@ pub struct Order {
 }
 
 // Behind the others, in chain order, those of the first `n` positions whose dependency stands at `holder`. A dependency
-// stands strictly earlier than what depends on it, so that nothing up to the holder has to be compared.
+// stands strictly earlier than what depends on it, so that nothing up to the holder has to be compared. That the order's
+// length is that of its list is asked here, since a `Bounded` may have any length. The loop is over places and not over the
+// table, since the place is what is listed; it fits a byte, as the root's does, since a chain has at most 255 components.
 fn put_dependents(order: &mut Order, parents: &[u8; 255], n: usize, holder: u8)
     requires { (n ≤ 255) × (holder < n) × (dependents parents.now holder (below (holder + 1)) ≡ []) × (order.old.places.len ≡ length (listed order.old)) × (length (listed order.old ++ dependents parents.now holder (below n)) ≤ 255) }
     ensures { Lists (listed order.old ++ dependents parents.now holder (below n)) order.new }
 {
-    for p in holder as usize + 1..n {
+    for p in usize::from(holder) + 1..n {
         if parents[p] == holder {
             order.places.push(p as u8);
         }

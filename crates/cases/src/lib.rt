@@ -13,8 +13,8 @@ pub fn with_digit(n: u64, d: u64) -> u64
     n.saturating_mul(10).saturating_add(d)
 }
 
-// 0 Active, else Passive. The rows of the comparisons with the Rust are numbers; kind and policy are types of another crate, so
-// that no `From` of a number can stand here.
+// 0 Active, else Passive. No `From`, here and below: `From<u64> for ComponentKind` may stand only in the crate of
+// `ComponentKind`, where numbers that only the comparisons with the Rust use do not belong.
 fn kind_of(n: u64) -> ComponentKind
     ensures { result ≡ kind_of n }
 {

@@ -1,18 +1,37 @@
 -- The table of a chain's places by id, which is filled from the last component to the first.
 use Prim.Native.Nat.{ℕ, ◌+◌, ◌<◌, ◌≤◌}
-use mathlib.Core.Path.{◌≡◌, sym, ◌∙◌, ap}
-use mathlib.Core.List.{List}
+use mathlib.Core.Path.{◌≡◌, refl, sym, ◌∙◌, ap}
+use mathlib.Core.List.{List, [], ◌∷◌, ◌++◌}
 use native.Mathlib.Decide.{ℕ_discrete}
 use native.Mathlib.Omega.{arith}
-use lib.ListN.{length, drop, set, replicate, get_or-replicate}
-use lib.Seq.{get_or-set_other}
+use lib.ListN.{length, drop, take, get_or, set, replicate, get_or-replicate, length-take}
+use lib.Seq.{get_or-set_other, take-append_seam, get_or-take, take-take}
+use Rattle.std.proofs.lemmas.List.{length_push, get_or_push}
 use borrow.Author.Tests.{eq-eqb, ne_eqb}
 use Rattle.std.proofs.lemmas.Grind.{get_or-set_at}
 use Rattle.model.specs.declared.Component.{Component}
 use Rattle.model.specs.Vocabulary.{id_of}
-use Rattle.components.specs.Chain.{position, id_at}
+use Rattle.components.specs.Chain.{blank, at, position, id_at}
 use Rattle.chain.proofs.Places.{position_here, position-next, position-end}
 use Rattle.chain.specs.Filled.{Filled}
+
+-- Of the first components one less is left after a turn: the last of them, which the turn takes.
+pub record Shorter (ch left : List Component) (x : Component) (k : ℕ) : Type 0 where
+  pub first : left ≡ take (length left) ch
+  pub last : at ch (length left) ≡ x
+  pub step : k ≡ length left + 1
+  pub inside : length left < length ch
+
+pub shorter : (ch rest left : List Component) (x : Component) → rest ≡ left ++ (x ∷ []) → rest ≡ take (length rest) ch → Shorter ch left x (length rest)
+shorter ch rest left x e first =
+    let step : length rest ≡ length left + 1 = ap length e ∙ length_push left x in
+    let cut : take (length rest) ch ≡ left ++ (x ∷ []) = sym first ∙ e in
+    record {
+      first = sym (take-append_seam left (x ∷ [])) ∙ ap (take (length left)) (sym cut) ∙ take-take (length left) (length rest) ch (omega arith);
+      last = sym (get_or-take (length rest) ch (length left) blank (omega arith)) ∙ ap (λ (l : List Component). get_or l (length left) blank) cut ∙ get_or_push left x blank (length left) refl;
+      step = step;
+      inside = omega (arith, step, ap length first, length-take (length rest) ch);
+    }
 
 module _ (ch : List Component) where
   -- The position of an id where only the components from k on are known.

@@ -13,7 +13,8 @@ use components::ComponentList;
 pub use member::Member;
 use model::{ComponentId, ComponentKind, FailurePolicy};
 
-// The tables are always those of the list. They are as long as a byte counts, in fixed memory: no call uses the heap.
+// The tables are always those of the list, of which at most 255 entries are kept. They are as long as a byte counts, in
+// fixed memory: no call uses the heap.
 #[derive(Clone, Copy)]
 pub struct Chain {
     pub list: ComponentList,
@@ -21,6 +22,7 @@ pub struct Chain {
     pub positions: [u8; 256],
     // By position: the position of what the component depends on, or the number of components.
     pub parents: [u8; 255],
+    pub ghost few: { length (entries_of list) ≤ 255 },
     pub ghost by_id: { ById (entries_of list) positions },
     pub ghost by_place: { Filled (parent (entries_of list)) (length (entries_of list)) parents },
 }
@@ -32,28 +34,33 @@ fn positions_of(list: ComponentList) -> [u8; 256]
 {
     let n = list.count();
     let mut positions = [n as u8; 256];
-    for p in (0..n).rev() {
-        positions[list.entries[p].id.0 as usize] = p as u8;
+    for (p, entry) in list.entries[..n].iter().enumerate().rev() {
+        positions[entry.id.index()] = p as u8;
     }
     positions
 }
 
-// What stands past the number of components stays 0: no one reads it.
+// What stands past the number of components stays 0: no one reads it. The table is written at a place, and not by `iter_mut` with
+// `zip`: std tells nothing of what is written behind an adapter of `iter_mut`.
 fn parents_of(list: ComponentList, positions: [u8; 256]) -> [u8; 255]
     requires { ById (entries_of list) positions }
     ensures { Filled (parent (entries_of list)) (length (entries_of list)) result }
 {
     let n = list.count();
     let mut parents = [0; 255];
-    for p in 0..n {
-        parents[p] = list.entries[p]
+    for (p, entry) in list.entries[..n].iter().enumerate() {
+        parents[p] = entry
             .attrs
             .depends_on
-            .map_or(n as u8, |id| positions[id.0 as usize]);
+            .map_or(n as u8, |id| positions[id.index()]);
     }
     parents
 }
 
+// A place is a number here, and no Option or type of its own: for none it is the number of components, as the definitions
+// count, the tables keep it and the cursor of a walk that has ended stands. So what asks for a place of the chain has a
+// premise, here and in the crates above; a type of such places would have to hold its chain, as `Member` does. The methods
+// take `self`: with `&self` two of the benchmark's workloads needed 8 to 12 % more instructions (docs/BENCHMARKS.md).
 impl Chain {
     ghost use Rattle.chain.specs.Tables.{entries};
 
@@ -81,7 +88,7 @@ impl Chain {
     pub fn position(self, id: ComponentId) -> usize
         ensures { result ≡ position (entries self) id }
     {
-        self.positions[id.0 as usize] as usize
+        usize::from(self.positions[id.index()])
     }
 
     // The position of what the component at `p` depends on, or the number of components where it depends on none.
@@ -89,7 +96,7 @@ impl Chain {
         requires { p < length (entries self) }
         ensures { result ≡ parent (entries self) p }
     {
-        self.parents[p] as usize
+        usize::from(self.parents[p])
     }
 
     pub fn id_at(self, p: usize) -> ComponentId

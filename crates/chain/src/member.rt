@@ -18,6 +18,7 @@ pub struct Member {
     pub ghost inside: { place < size chain },
 }
 
+// By value, as the methods of `Chain`.
 impl Member {
     ghost use Rattle.chain.specs.Links.{kind_at, policy_at};
 

@@ -1,17 +1,11 @@
--- Going through a list of components from place to place: what is left to look at gives the whole answer.
-use Prim.Native.Nat.{ℕ, suc, ◌+◌, ◌<◌, ◌≤◌, min}
+-- The entries that a list keeps: how many, and which.
+use Prim.Native.Nat.{ℕ, ◌<◌, min}
 use mathlib.Core.Path.{◌≡◌, ◌∙◌, ap}
-use mathlib.Core.Bool.{Bool, true, false}
-use mathlib.Core.List.{List}
-use native.Mathlib.Numerals.{add-one}
 use native.Mathlib.Omega.{arith}
-use lib.ListN.{length, drop, get_or, length-take, drop_of_length-le}
-use lib.Seq.{drop-cons, get_or-take}
-use Rattle.model.specs.declared.ComponentId.{ComponentId}
-use Rattle.model.specs.declared.Component.{Component}
+use lib.ListN.{length, get_or, length-take}
+use lib.Seq.{get_or-take}
 use Rattle.components.specs.declared.ComponentList.{ComponentList}
-use Rattle.model.specs.Vocabulary.{pick}
-use Rattle.components.specs.Chain.{entries_of, blank, position, same_id, at}
+use Rattle.components.specs.Chain.{entries_of, blank, at}
 
 module _ (l : ComponentList) (full : length l.entries ≡ 255) where
   pub kept-length : length (entries_of l) ≡ min l.len 255
@@ -19,21 +13,3 @@ module _ (l : ComponentList) (full : length l.entries ≡ 255) where
 
   pub kept_at : (i : ℕ) → i < length (entries_of l) → at (entries_of l) i ≡ get_or l.entries i blank
   kept_at i h = get_or-take l.len l.entries i blank (omega (arith, kept-length))
-
-module _ (ch : List Component) (id : ComponentId) (i : ℕ) where
-  here : i < length ch → (b : Bool) → same_id (at ch i).id id ≡ b → position (drop i ch) id ≡ pick b 0 (suc (position (drop (suc i) ch) id))
-  unfolding position
-  here h b t = rw (drop-cons ch i blank h, t)
-
-  -- The id stands at place i,
-  pub position_here : i < length ch → same_id (at ch i).id id ≡ true → i + position (drop i ch) id ≡ i
-  position_here h t = omega (arith, here h true t)
-
-  -- or it does not,
-  pub position-next : i < length ch → same_id (at ch i).id id ≡ false → i + position (drop i ch) id ≡ i + 1 + position (drop (i + 1) ch) id
-  position-next h t = rw (add-one i) (omega (arith, here h false t))
-
-  -- or the list has ended.
-  pub position-end : length ch ≤ i → i + position (drop i ch) id ≡ i
-  unfolding position
-  position-end h = rw (drop_of_length-le ch {i = i} h) (omega arith)

@@ -40,6 +40,10 @@ unfoldable pub position : List Component → ComponentId → ℕ
 position [] id = 0
 position (c ∷ cs) id = pick (same_id c.id id) 0 (suc (position cs id))
 
+-- The place p where it is one of n entries, and else none.
+abbrev pub found : ℕ → ℕ → Option ℕ
+found n p = pick (ltb p n) (Some p) None
+
 abbrev pub at : List Component → ℕ → Component
 at ch p = get_or ch p blank
 

@@ -2,7 +2,7 @@
 #![tactic(auto)]
 
 ghost use Rattle.std.specs.Prelude.{◌≡◌, ◌≤◌, length};
-ghost use Rattle.components.specs.Chain.{entries_of, no_entries, pushed, position, new_ids, links, verdict_of, answer_of};
+ghost use Rattle.components.specs.Chain.{entries_of, no_entries, pushed, position, found, new_ids, links, verdict_of, answer_of};
 
 use model::{Component, ComponentAttrs, ComponentId, ComponentKind, FailurePolicy};
 
@@ -71,6 +71,8 @@ impl From<Result<(), ChainError>> for Answer {
     }
 }
 
+// The public methods take the list by value, as they were promised; `place`, `new_id` and `link` are lent it, since they are
+// asked for each entry.
 impl ComponentList {
     // A list with no entry.
     pub fn new() -> Self
@@ -106,29 +108,29 @@ impl ComponentList {
         self.len.min(255)
     }
 
-    // The first place at which `id` stands, or the number of entries kept where it stands nowhere.
+    // The first place at which `id` stands, or the number of entries kept where it stands nowhere: no `Option`, since callers
+    // are promised that number, and the definition `position` counts so.
+    #[tactic(auto, using(crate::proofs::Lookup::found_position))]
     pub fn position(self, id: ComponentId) -> usize
         ensures { result ≡ position (entries_of self) id }
     {
-        self.place(id)
+        self.place(id).unwrap_or(self.count())
     }
 
-    // The same of a list that is lent, since by value each call copies the list.
-    fn place(&self, id: ComponentId) -> usize
-        ensures { result ≡ position (entries_of self.now) id }
+    // The first place at which `id` stands, if any, of a list that is lent, since by value each call copies the list.
+    fn place(&self, id: ComponentId) -> Option<usize>
+        ensures { result ≡ found (length (entries_of self.now)) (position (entries_of self.now) id) }
     {
-        let kept = self.count();
-        self.entries[..kept]
-            .iter()
-            .position(|c| c.id == id)
-            .unwrap_or(kept)
+        self.entries[..self.count()].iter().position(|c| c.id == id)
     }
 
-    // Question 4 of the entry at place `at`: is its id new?
+    // Question 4 of the entry at place `at`: is its id new? One that stands nowhere counts as past the end, as in the definition,
+    // whatever place is asked about.
+    #[tactic(auto, using(crate::proofs::Lookup::found_position))]
     fn new_id(&self, at: usize, entry: &Component) -> Result<(), ChainError>
         ensures { result ≡ new_ids (entries_of self.now) at entry.now }
     {
-        if self.place(entry.id) < at {
+        if self.place(entry.id).unwrap_or(self.count()) < at {
             return Err(ChainError::DuplicateId(entry.id));
         }
         Ok(())
@@ -141,13 +143,12 @@ impl ComponentList {
         let Some(depends_on) = entry.attrs.depends_on else {
             return Ok(());
         };
-        let place = self.place(depends_on);
-        if self.count() <= place {
+        let Some(place) = self.place(depends_on) else {
             return Err(ChainError::UnknownDependency {
                 component: entry.id,
                 depends_on,
             });
-        }
+        };
         if at <= place {
             return Err(ChainError::ForwardDependency {
                 component: entry.id,

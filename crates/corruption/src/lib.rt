@@ -15,8 +15,8 @@ use chain::{Chain, Member};
 use machine::Work;
 use model::{Effect, FailurePolicy};
 
-// Where a corruption is met: in a walk, while an update is staged, or elsewhere. An enum and no closure: what follows and what
-// comes before are chosen by the same word, which the contracts name.
+// Where a corruption is met: in a walk, while an update is staged, or elsewhere. An enum and no closures: what comes before
+// and what follows are two pieces of work that go together, so that two closures would have to be shown to.
 #[derive(Clone, Copy, Debug, PartialEq, Eq)]
 pub enum Situation {
     Walking,
@@ -72,13 +72,14 @@ fn follow(chain: Chain, w: Work, situation: Situation) -> Work
 }
 
 // What comes before a recovery: an update that it preempts is discarded and answered.
-fn precede(w: Work, situation: Situation) -> Work
+fn precede(mut w: Work, situation: Situation) -> Work
     ensures { DoesAll w (λ c. out c (before situation)) result }
 {
     match situation {
         Situation::Updated => {
-            let v = machine::say(w, Effect::DiscardStaged);
-            machine::say(v, Effect::ReportUpdateAborted)
+            w.sink.emit(Effect::DiscardStaged);
+            w.sink.emit(Effect::ReportUpdateAborted);
+            w
         }
         Situation::Walking | Situation::Elsewhere => w,
     }

@@ -1,30 +1,30 @@
 // A run of a sheet, in small steps: what the next line or the machine does, and then the line that it writes.
 #![tactic(auto)]
 
-ghost use Rattle.std.specs.Prelude.{◌≡◌, List, ◌∷◌, ℕ, ◌+◌, ◌<◌, leb, ltb, length, drop, Ok, Err};
+ghost use Rattle.std.specs.Prelude.{◌≡◌, ℕ, ◌+◌, ◌<◌, leb, ltb, length, drop, Ok, Err};
 ghost use Rattle.model.specs.Vocabulary.{pick};
 ghost use Rattle.components.specs.Chain.{id_at};
-ghost use Rattle.chain.specs.Tables.{entries};
+ghost use Rattle.chain.specs.Tables.{entries, size};
 ghost use Rattle.machine.specs.Status.{status_at};
 ghost use Rattle.machine.specs.View.{statuses_of};
 ghost use Rattle.printed.specs.Transcript.{status_line};
-ghost use Rattle.pending.specs.Queue.{events};
 ghost use Rattle.text.specs.Lines.{text_of};
 ghost use Rattle.settling.specs.Parts.{Moves};
 ghost use Rattle.driver.specs.Run.{Setting, Point, silent, answering, handed, reading, step_by, transcript};
 ghost use Rattle.driver.specs.Seen.{run_on, Ran};
 ghost use Rattle.driver.specs.declared.RunError.TheVariants.{LimitReached};
-ghost use Rattle.driver.specs.Plans.{at_start, end_of, stays, stops, passes, answers, answers_by, begins, reads_by, tells_next, takes, finishes, taking_now, turn_at, act_by, telling_now, spoken, wrote, Stands, Due, Planned};
+ghost use Rattle.driver.specs.Plans.{at_start, end_of, stays, stops, passes, answers, answers_by, begins, reads_by, tells_next, takes, finishes, taking_now, turn_at, act_by, telling_now, spoken, wrote, Stands, NextIs, Due, Planned};
 
 use chain::Chain;
 use lines::Row;
 use machine::Rot;
 use model::{Effect, Event, State};
-use pending::Pending;
+use reader::Next;
 use settling::{Dispatch, Machine, Reply};
 use text::Line;
 
-// What a turn of the machine would do. A word and no closure: the contracts name it, and each of two functions does its part of it.
+// What a turn of the machine would do. An enum that carries no effect and no event: the definitions (`driver:Run.step_by`) decide
+// by the stage alone, and the effect or the event is read where the machine's parts are changed.
 #[derive(Clone, Copy)]
 pub enum Stage {
     Waits,
@@ -34,7 +34,9 @@ pub enum Stage {
 }
 
 // Where a run stands, beside its machine: the place of the next line in the sheet, and its number; the number of the E line
-// at work, or 0; events settled, T lines told, bytes written; and how the run ended, once it has.
+// at work, or 0; events settled, T lines told, bytes written; and how the run ended, once it has. The 0 of `work` is the
+// definitions', which ask whether it is 0; an Option would have to be shown to hold no 0. What is done to a cursor is a function
+// for each, named as in the definitions (`passes`, `stops`, `takes`, ..).
 #[derive(Clone, Copy)]
 pub struct Cursor {
     pub at: usize,
@@ -56,7 +58,8 @@ pub enum RunError {
 }
 
 // What a step does to the machine: nothing, the dispatch has ended, an event is queued, the waiting effect is answered, a
-// turn. It is decided apart from where it is done: what decides takes no machine, whose arrays are changed where they stand.
+// turn. An enum: what a step does and says is decided by a function that is given no machine, and done where the machine's parts
+// are changed in place.
 #[derive(Clone, Copy)]
 pub enum Act {
     Stay,
@@ -66,8 +69,8 @@ pub enum Act {
     Turn,
 }
 
-// The line that a step writes: none, of the effect that it hands out, of the state before it, of the next component. A word, as `Act`
-// is: the line can be written only after the act.
+// The line that a step writes: none, of the effect that it hands out, of the state before it, of the next component. An enum, as
+// `Act` is: the line can be written only after the act.
 #[derive(Clone, Copy)]
 pub enum Say {
     Silence,
@@ -126,7 +129,8 @@ fn stop(mut c: Cursor, outcome: Result<(), RunError>) -> Plan
     stay(c)
 }
 
-// One line further.
+// One line further. That its number fits is a premise here and in the two that pass a line, since `Stands` gives it of a sheet,
+// which none of the three is given.
 fn pass(mut c: Cursor, after: usize) -> Cursor
     requires { c.line < 18446744073709551615 }
     ensures { result ≡ passes after c }
@@ -148,19 +152,20 @@ fn answer(c: Cursor, reply: Reply) -> Plan
 }
 
 // An effect waits for this line; if it isn't an R line, the reply is ok.
-fn answer_row(c: Cursor, row: Option<Row>, after: usize) -> Plan
+fn answer_row(c: Cursor, next: Next) -> Plan
     requires { c.line < 18446744073709551615 }
-    ensures { result ≡ answers_by c after row }
+    ensures { result ≡ answers_by c next.after next.row }
 {
-    if let Some(Row::Answer(reply)) = row {
-        answer(pass(c, after), reply)
+    if let Some(Row::Answer(reply)) = next.row {
+        answer(pass(c, next.after), reply)
     } else {
         answer(c, Reply::Done)
     }
 }
 
-// An effect waits for the next line. `Stands` is a premise here and no invariant of a cursor: the definitions make one cursor of
-// another in ten ways, and each would have to carry its proof.
+// An effect waits for the next line. `Stands` is a premise here and no invariant of a cursor, since it is a fact of a
+// cursor and a sheet: a struct of both would be made anew, with its proof, in each of the ten ways in which a step makes
+// one cursor of another.
 fn answer_by_line(sheet: &[u8], c: Cursor) -> Plan
     requires { Stands sheet.now c }
     ensures { (limit n : ℕ) (g : Stage) → Planned sheet.now limit n c g (λ (st : Setting) (p : Point). silent (answering p p.rows)) result }
@@ -168,8 +173,7 @@ fn answer_by_line(sheet: &[u8], c: Cursor) -> Plan
     if sheet.len() <= c.at {
         return answer(c, Reply::Done);
     }
-    let next = reader::next_line(sheet, c.at);
-    answer_row(c, next.row, next.after)
+    answer_row(c, reader::next_line(sheet, c.at))
 }
 
 // The front event is taken, unless the limit is reached.
@@ -227,14 +231,14 @@ fn begin(mut c: Cursor, event: Event, line: usize) -> Plan
 }
 
 // This line, with no event at work.
-fn read_row(c: Cursor, row: Option<Row>, after: usize) -> Plan
+fn read_row(c: Cursor, next: Next) -> Plan
     requires { c.line < 18446744073709551615 }
-    ensures { result ≡ reads_by c after row }
+    ensures { result ≡ reads_by c next.after next.row }
 {
-    match row {
-        Some(Row::Begin(event)) => begin(pass(c, after), event, c.line),
+    match next.row {
+        Some(Row::Begin(event)) => begin(pass(c, next.after), event, c.line),
         Some(Row::Answer(_)) => stop(c, Err(RunError::NothingWaits(c.line))),
-        _ => stay(pass(c, after)),
+        _ => stay(pass(c, next.after)),
     }
 }
 
@@ -246,8 +250,7 @@ fn read(sheet: &[u8], n: usize, c: Cursor) -> Plan
     if sheet.len() <= c.at {
         return tell(c, n);
     }
-    let next = reader::next_line(sheet, c.at);
-    read_row(c, next.row, next.after)
+    read_row(c, reader::next_line(sheet, c.at))
 }
 
 // One step of a run, by what is due.
@@ -275,42 +278,35 @@ fn takes(act: Act, stage: Stage) -> bool
     matches!((act, stage), (Act::Turn, Stage::Takes))
 }
 
-// The dispatch after a turn that takes no event; `effect` is the next one of a batch of `len`.
+// The dispatch after a turn that takes no event. Past the end of the batch nothing is handed out, so that no caller has to
+// show that an effect is left.
 #[tactic(auto, using(settling::proofs::Views::short_of))]
-fn turned(d: Dispatch, len: usize, effect: Effect, stage: Stage) -> Dispatch
-    requires { stage ≡ Stage.HandsOut → d.next < len }
-    ensures { Moves len (λ es. turn_at effect (drop (d.next + 1) es) stage) d result }
+fn turned(d: Dispatch, batch: &[Effect], stage: Stage) -> Dispatch
+    ensures { (x : Effect) → NextIs stage batch.now d.next x → Moves (length batch.now) (λ es. turn_at x (drop (d.next + 1) es) stage) d result }
 {
-    match stage {
-        Stage::Waits | Stage::Takes => d,
-        Stage::HandsOut => settling::hand_out(d, len, effect),
-        Stage::Rests => settling::rested(d),
+    match (stage, batch.get(d.next)) {
+        (Stage::HandsOut, Some(effect)) => settling::hand_out(d, batch.len(), *effect),
+        (Stage::Rests, _) => settling::rested(d),
+        _ => d,
     }
 }
 
 // The dispatch after an act that takes no event.
 #[tactic(auto, using(settling::proofs::Views::short_of))]
-fn acted(d: Dispatch, len: usize, effect: Effect, act: Act, stage: Stage) -> Dispatch
-    requires { stage ≡ Stage.HandsOut → d.next < len }
-    ensures { Moves len (λ es. act_by (turn_at effect (drop (d.next + 1) es) stage) act) d result }
+fn acted(d: Dispatch, batch: &[Effect], act: Act, stage: Stage) -> Dispatch
+    ensures { (x : Effect) → NextIs stage batch.now d.next x → Moves (length batch.now) (λ es. act_by (turn_at x (drop (d.next + 1) es) stage) act) d result }
 {
     match act {
         Act::Stay => d,
         Act::Rest => settling::rested(d),
-        Act::Queue(event) => settling::enqueue(d, len, event),
-        Act::Give(reply) => settling::replied(d, len, reply),
-        Act::Turn => turned(d, len, effect, stage),
+        Act::Queue(event) => settling::enqueue(d, batch.len(), event),
+        Act::Give(reply) => settling::replied(d, batch.len(), reply),
+        Act::Turn => turned(d, batch, stage),
     }
 }
 
-// The front event. Of an empty queue, which is never asked, it is EffectFailed, which lets nothing run: the value spares a premise.
-fn front_event(pending: Pending) -> Event
-    ensures { (e : Event) (q : List Event) → events pending ≡ e ∷ q → result ≡ e }
-{
-    pending.front().unwrap_or(Event::EffectFailed)
-}
-
-// An effect that is handed out has an X line.
+// An effect that is handed out has an X line. What follows builds lines in fixed memory, by `text`: no `Display` promises
+// its text there.
 fn handed_line(waiting: Option<Effect>) -> Line
     ensures { text_of result ≡ transcript (handed waiting) }
 {
@@ -335,12 +331,12 @@ fn tells(say: Say) -> bool
     matches!(say, Say::StatusLine)
 }
 
-// The T line of the component at position p, of n.
-fn told_line(chain: Chain, rot: Rot, n: usize, p: usize) -> Line
-    requires { (n ≡ length (entries chain)) × (p < n) }
-    ensures { text_of result ≡ status_line (id_at (entries chain) p) (status_at (statuses_of n rot) p) }
+// The T line of the component at position p.
+fn told_line(chain: Chain, rot: Rot, p: usize) -> Line
+    requires { p < size chain }
+    ensures { text_of result ≡ status_line (id_at (entries chain) p) (status_at (statuses_of (size chain) rot) p) }
 {
-    printed::status_line(chain.id_at(p), machine::status_at(rot, n, p))
+    printed::status_line(chain.id_at(p), machine::status_at(rot, chain.count(), p))
 }
 
 // A run before its first line.
@@ -381,9 +377,8 @@ fn ended(outcome: Result<(), RunError>, c: Cursor) -> End
     }
 }
 
-// The run of a sheet on a machine that `new` made for it, into a lent buffer. The machine is taken apart, and its parts are changed
-// in place. The next effect is read at every step, and used only where one is left: then its place is below 512, the number of
-// effects that there is room for.
+// The run of a sheet on a machine that `new` made for it, into a lent buffer: document 01's sheet, buffer and limit, each
+// by itself. The machine is taken apart, and its parts are changed in place.
 pub fn drive(sheet: &[u8], out: &mut [u8], limit: u64, machine: Machine) -> End
     ensures { Ran out.old (run_on sheet.now (length out.old) limit machine) result out.new }
 {
@@ -400,23 +395,22 @@ pub fn drive(sheet: &[u8], out: &mut [u8], limit: u64, machine: Machine) -> End
         if let Some(outcome) = c.outcome {
             return ended(outcome, c);
         }
-        let stage = due(dispatch, work.sink.len);
+        let stage = due(dispatch, work.sink.effects.len);
         let Plan { cursor, act, say } = next_step(sheet, limit, n, stage, c);
-        let effect = work.sink.effects[dispatch.next % 512];
         let before = work.state;
-        if takes(act, stage) {
-            let event = front_event(dispatch.pending);
-            dispatch = settling::taken(dispatch);
-            if rot::idles(&chain.positions, n, before, event) {
-                work.sink.len = 0;
-            } else {
-                work = rot::step(chain, max_retry, before, work.rot, work.sink, event);
+        match dispatch.pending.front() {
+            Some(event) if takes(act, stage) => {
+                dispatch = settling::taken(dispatch);
+                if rot::idles(&chain.positions, n, before, event) {
+                    work.sink.effects.len = 0;
+                } else {
+                    work = rot::step(chain, max_retry, work, event);
+                }
             }
-        } else {
-            dispatch = acted(dispatch, work.sink.len, effect, act, stage);
+            _ => dispatch = acted(dispatch, work.sink.effects.as_slice(), act, stage),
         }
         let line = if tells(say) {
-            told_line(chain, work.rot, n, c.told)
+            told_line(chain, work.rot, c.told)
         } else {
             said_line(say, before, dispatch.waiting)
         };

@@ -14,13 +14,13 @@ fn id_line(name: &[u8], id: ComponentId) -> Line
     requires { length name.now ≤ 20 }
     ensures { text_of result ≡ line (bytes "X" ⇥ name.now ⇥ id_text id) }
 {
-    text::number_line(b'X', name, u64::from(id.0))
+    text::number_line(b'X', name, u64::from(id))
 }
 
 fn recover_line(id: ComponentId, attempt: u8) -> Line
     ensures { text_of result ≡ line (bytes "X" ⇥ bytes "RecoverComponent" ⇥ id_text id ⇥ decimal attempt) }
 {
-    let l = text::push_number(text::start(b'X', b"RecoverComponent"), u64::from(id.0));
+    let l = text::push_number(text::start(b'X', b"RecoverComponent"), u64::from(id));
     text::push(text::push_number(l, u64::from(attempt)), b'\n')
 }
 
@@ -37,7 +37,7 @@ fn push_cause(l: Line, kind: BootFailureKind) -> Line
 fn boot_line(id: ComponentId, checkpoint: u16, kind: BootFailureKind) -> Line
     ensures { text_of result ≡ line (bytes "X" ⇥ bytes "ReportBootFailed" ⇥ id_text id ⇥ decimal checkpoint ⇥ failure_text kind) }
 {
-    let l = text::push_number(text::start(b'X', b"ReportBootFailed"), u64::from(id.0));
+    let l = text::push_number(text::start(b'X', b"ReportBootFailed"), u64::from(id));
     let l = push_cause(text::push_number(l, u64::from(checkpoint)), kind);
     text::push(l, b'\n')
 }

@@ -9,7 +9,6 @@ ghost use Rattle.entry.specs.Entry.{enter_locked, enter_ready, enter_updating, e
 use chain::{Chain, Member};
 use machine::Work;
 use model::{Effect, State};
-use store::Status;
 
 pub fn enter_locked(mut w: Work) -> Work
     ensures { DoesAll w enter_locked result }
@@ -43,11 +42,7 @@ pub fn enter_recovering(member: Member, mut w: Work) -> Work
 {
     let Member { id, place, .. } = member;
     let attempt = w.rot.statuses[place].retry;
-    w.rot.statuses[place] = Status {
-        awaiting_boot: false,
-        released: false,
-        ..w.rot.statuses[place]
-    };
+    w.rot.statuses[place] = w.rot.statuses[place].off();
     w.rot.pending_commit = false;
     w.state = State::Recovering(id);
     w.sink.emit(Effect::RecoverComponent { id, attempt });

@@ -83,25 +83,25 @@ fn boot_failed(f: &[u8], id: ComponentId, checkpoint: u16) -> Option<Event>
 }
 
 // The fields of BootFailed: a component, a checkpoint and a kind.
-#[tactic(auto, using(fields::proofs::Numbers::number_bound), unfolding(crate::specs::Read::boot_fields))]
+#[tactic(auto, unfolding(crate::specs::Read::boot_fields))]
 fn boot_fields(l: &[u8]) -> Option<Event>
     ensures { result ≡ boot_fields l.now }
 {
     let m = fields::rest(l);
-    let i = fields::number(fields::first(l), 255)?;
-    let c = fields::number(fields::first(m), 65535)?;
-    boot_failed(fields::rest(m), ComponentId(i as u8), c as u16)
+    let id = ComponentId(fields::byte(fields::first(l))?);
+    let checkpoint = fields::word(fields::first(m))?;
+    boot_failed(fields::rest(m), id, checkpoint)
 }
 
 // An event with fields: the name tells which these are.
-#[tactic(auto, using(fields::proofs::Tables::tables, fields::proofs::Numbers::number_bound), unfolding(crate::specs::Read::field_event, crate::specs::Read::id_fields))]
+#[tactic(auto, using(fields::proofs::Tables::tables), unfolding(crate::specs::Read::field_event, crate::specs::Read::id_fields))]
 fn field_event(name: &[u8], l: &[u8]) -> Option<Event>
     ensures { result ≡ field_event name.now l.now }
 {
     match as_text(name)? {
         "PowerGood" => power_good(l),
         "BootFailed" => boot_fields(l),
-        name => id_event(name, ComponentId(fields::number(l, 255)? as u8)),
+        name => id_event(name, ComponentId(fields::byte(l)?)),
     }
 }
 

@@ -36,7 +36,8 @@ pub fn boot_failed(member: Member, w: Work, failure: BootFailure, situation: Sit
         checkpoint,
         kind,
     };
-    let v = machine::say(w, report);
+    let mut v = w;
+    v.sink.emit(report);
     if kind == BootFailureKind::DeviceFatal {
         return corruption::handle_corruption(member, v, situation);
     }

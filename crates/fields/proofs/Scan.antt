@@ -1,21 +1,18 @@
 -- A text looked through from place i on, by the byte at i: the place of a byte, and whether two texts are the same.
-use mathlib.Core.Path.{◌≡◌, refl, sym, ◌∙◌}
-use mathlib.Core.Bool.{Bool, true, false}
+use mathlib.Core.Path.{◌≡◌, refl, sym, ap, ◌∙◌}
 use mathlib.Core.List.{List, [], ◌∷◌}
-use Prim.Native.Nat.{ℕ, suc, ◌+◌, ◌-◌, ◌≤◌}
+use Prim.Native.Nat.{ℕ, suc, ◌≤◌}
 use native.Mathlib.Omega.{arith}
-use borrow.Author.Tests.{ltb-false}
 use lib.Dec.{eqb, ltb}
-use lib.ListN.{length, take, drop}
+use lib.ListN.{length}
 use Rattle.model.proofs.Pick.{pick_p}
-use Rattle.std.specs.Prelude.{None, Some, unwrap_or}
+use Rattle.model.proofs.Found.{place-step, as-found, found-or}
+use Rattle.std.specs.Prelude.{Option, unwrap_or}
 use Rattle.std.specs.List.{position, position_or_len}
 use Rattle.std.specs.Bool.{Decides}
-use Rattle.model.specs.Vocabulary.{pick}
-use Rattle.std.proofs.lemmas.List.{take_rest}
 use Rattle.std.proofs.lemmas.List.Recursion.{is_position_or_len}
 use Rattle.std.proofs.lemmas.Slice.Eq.{IsBytesEq, compares_Decides}
-use Rattle.std.proofs.Common.{rules, cond}
+use Rattle.std.proofs.Common.{rules}
 use Rattle.fields.specs.Fields.{place_of, same_bytes}
 
 pub place-le : (b : ℕ) (l : List ℕ) → place_of b l ≤ length l
@@ -27,19 +24,12 @@ pub place-bound : (b n : ℕ) (l : List ℕ) → n ≡ place_of b l → n ≤ le
 place-bound b n l e = omega (arith, place-le b l)
 
 -- What `position` gives, or the length.
-found-or : (t : Bool) (n m : ℕ) → ltb n m ≡ t → n ≤ m → unwrap_or (cond t (Some n) None) m ≡ n
-found-or true n m e h = refl
-found-or false n m e h = omega (arith, ltb-false n m e)
-
-place-step : (t : Bool) (n : ℕ) → pick t 0 (suc n) ≡ cond t 0 (1 + n)
-place-step true n = refl
-place-step false n = omega arith
-
 pub place-position : (b : ℕ) (l : List ℕ) → unwrap_or (position (λ x. eqb x b) l) (length l) ≡ place_of b l
 unfolding place_of
 place-position b l =
     let e : position_or_len (λ x. eqb x b) l ≡ place_of b l = sym (is_position_or_len (place_of b) (λ x. eqb x b) refl (λ x m. place-step (eqb x b) (place_of b m)) l) in
-    found-or _ _ (length l) refl (omega (arith, e, place-le b l)) ∙ e
+    let n : ℕ = position_or_len (λ x. eqb x b) l in
+    ap (λ (o : Option ℕ). unwrap_or o (length l)) (as-found (ltb n (length l)) n) ∙ found-or _ (length l) n refl (omega (arith, e, place-le b l)) ∙ e
 
 -- Texts are the same where they are equal.
 heads : IsBytesEq same_bytes
@@ -48,7 +38,3 @@ heads = search rules
 
 pub same-Decides : (l m : List ℕ) → Decides (same_bytes l m) (l ≡ m)
 same-Decides = compares_Decides same_bytes heads
-
--- A part that goes on to the end.
-pub to_the_end : (l : List ℕ) (n : ℕ) → take (length l - n) (drop n l) ≡ drop n l
-to_the_end = take_rest

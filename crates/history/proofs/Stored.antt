@@ -87,7 +87,7 @@ padded-length {ℓ} : {A : Type ℓ} (n : ℕ) (d : A) (l : List A) → length l
 padded-length n d l h = omega (arith, length-append l (replicate (n - length l) d), length-replicate (n - length l) d)
 
 unfoldable pub sink_of : List Effect → Sink
-sink_of es = record { effects = padded 512 LatchLockdown es; len = length es }
+sink_of es = record { effects = record { items = padded 512 LatchLockdown es; len = length es } }
 
 sink-held : (es : List Effect) → held (sink_of es) ≡ es
 unfolding held sink_of
@@ -166,6 +166,7 @@ chart_of l h = record {
   list = l;
   positions = rows 256 (λ i. position (entries_of l) (id_of i));
   parents = rows 255 (parent (entries_of l));
+  few = h;
   by_id = λ i k. rows_at 256 (λ i. position (entries_of l) (id_of i)) i k;
   by_place = λ p k. rows_at 255 (parent (entries_of l)) p (omega arith);
 }
@@ -193,7 +194,7 @@ pub record Sizes (m : Machine) : Type 0 where
   pub parents : length m.chain.parents ≡ 255
   pub statuses : length m.work.rot.statuses ≡ 255
   pub words : length m.work.rot.isolated.words ≡ 4
-  pub effects : length m.work.sink.effects ≡ 512
+  pub effects : length m.work.sink.effects.items ≡ 512
   pub entries : length m.dispatch.pending.entries.items ≡ 8
 
 module _ (l : ComponentList) (s : Sound l.len (entries_of l)) (max : ℕ) where

@@ -3,26 +3,28 @@
 // components, so each has a bit. The contracts speak of `flags s`, the list of all 256 bits.
 #![tactic(auto)]
 
-ghost use Rattle.std.specs.Prelude.{◌≡◌, true, false, [], ◌∷◌, ◌≤◌, get_or, set, replicate};
+ghost use Rattle.std.specs.Prelude.{◌≡◌, true, false, [], ◌∷◌, ◌≤◌, get_or, set, length, replicate};
 ghost use Rattle.isolated.specs.Flags.{flags, next_free, trues};
 
-// Four words in fixed memory: the form that document 01 names.
+// Four words in fixed memory: the form that document 01 names. The methods copy them: they are 32 bytes.
 #[derive(Clone, Copy)]
 pub struct Isolated {
     pub words: [u64; 4],
 }
 
 impl Isolated {
-    // No position is isolated at the start.
+    // No position is isolated at the start. By name, as in the source, and no `Default`.
+    #[tactic(auto, unfolding(crate::specs::Flags::flags, crate::specs::Flags::flags_of, crate::specs::Flags::digits))]
     pub fn new() -> Self
         ensures { (flags result ≡ replicate 256 false) × (result ≡ record { words = 0 ∷ 0 ∷ 0 ∷ 0 ∷ [] }) }
     {
         Isolated { words: [0u64; 4] }
     }
 
-    // A position from 256 on has no bit, so it is never isolated.
+    // A position from 256 on has no bit, so it is never isolated. That there are four words a caller to whom the set is
+    // lent knows from here.
     pub fn contains(self, p: usize) -> bool
-        ensures { result ≡ get_or (flags self) p false }
+        ensures { (result ≡ get_or (flags self) p false) × (length self.words ≡ 4) }
     {
         p < 256 && (self.words[p / 64] >> (p % 64)) % 2 == 1
     }
@@ -38,7 +40,8 @@ impl Isolated {
     }
 
     // The first position from `from` on and below `n` that is not isolated, or `n` where there is
-    // none, as for a start past `n`. A position from 256 on has no bit, so it is never isolated.
+    // none, as for a start past `n`. No Option: that number is promised, and the cursor of a walk that has ended is set to it.
+    // A position from 256 on has no bit, so it is never isolated.
     pub fn next_free(self, from: usize, n: usize) -> usize
         ensures { result ≡ next_free (flags self) from n }
     {
@@ -59,7 +62,7 @@ impl Isolated {
         n
     }
 
-    // How many positions are isolated.
+    // How many positions are isolated. (A `u32` is widened by `as`: no `From` of it for a `usize` is there.)
     pub fn count(self) -> usize
         ensures { (result ≡ trues (flags self)) × (result ≤ 256) }
     {

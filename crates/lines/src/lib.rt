@@ -5,7 +5,7 @@ ghost use Rattle.std.specs.Prelude.{◌≡◌, [], ◌∷◌, Some, None};
 ghost use Rattle.model.specs.declared.ComponentKind.TheVariants.{Active, Passive};
 ghost use Rattle.model.specs.declared.FailurePolicy.TheVariants.{Required, Isolable, Cascading};
 ghost use Rattle.text.specs.Text.{bytes};
-ghost use Rattle.fields.specs.Fields.{number_of, lookup};
+ghost use Rattle.fields.specs.Fields.{lookup};
 ghost use Rattle.lines.specs.Read.{card_of, retry_of, answer_of, row_of};
 
 use model::{
@@ -20,13 +20,6 @@ pub enum Row {
     Card(Component),
     Begin(Event),
     Answer(Reply),
-}
-
-// A number from 0 to 255.
-fn byte(f: &[u8]) -> Option<u8>
-    ensures { result ≡ number_of 255 f.now }
-{
-    fields::number(f, 255).map(|n| n as u8)
 }
 
 // A component's kind by its name.
@@ -59,16 +52,16 @@ fn policy_of(name: &[u8]) -> Option<FailurePolicy>
 fn read_card(l: &[u8]) -> Option<Row>
     ensures { result ≡ card_of l.now }
 {
-    let id = ComponentId(byte(fields::first(l))?);
+    let id = ComponentId(fields::byte(fields::first(l))?);
     let l = fields::rest(l);
     let kind = kind_of(fields::first(l))?;
     let l = fields::rest(l);
     let failure_policy = policy_of(fields::first(l))?;
     let l = fields::rest(l);
-    let recovery_region = RegionId(byte(fields::first(l))?);
+    let recovery_region = RegionId(fields::byte(fields::first(l))?);
     let depends_on = match fields::rest(l) {
         b"-" => None,
-        f => Some(ComponentId(byte(f)?)),
+        f => Some(ComponentId(fields::byte(f)?)),
     };
     let attrs = ComponentAttrs {
         kind,
@@ -84,7 +77,7 @@ fn read_card(l: &[u8]) -> Option<Row>
 fn read_retry(f: &[u8]) -> Option<Row>
     ensures { result ≡ retry_of f.now }
 {
-    byte(f).map(Row::Retry)
+    fields::byte(f).map(Row::Retry)
 }
 
 // An R line after its letter.

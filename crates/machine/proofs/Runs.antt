@@ -60,9 +60,6 @@ pub ran-emit : {n : ℕ} {w v : Work} {o : Out} {s : Sink} (e : Effect) → Ran 
 unfolding says
 ran-emit e a q = ran_then (λ (c : Core). out c (e ∷ [])) a (record { core = refl; sink = q; fit = λ fit. fit })
 
-pub ran-say : {n : ℕ} {w v r : Work} {o : Out} (e : Effect) → Ran n w o v → r ≡ sink_is (with_effect v.sink e) v → Ran n w (out o.core (o.said ++ (e ∷ []))) r
-ran-say {n} {w} {v} {r} {o} e a q = subst (λ (x : Work). Ran n w (out o.core (o.said ++ (e ∷ []))) x) (sym q) (ran-emit e a refl)
-
 -- a new state, or the window.
 pub ran-state : {n : ℕ} {w v r : Work} {o : Out} (s : State) → Ran n w o v → r ≡ state_is s v → Ran n w (out (in_state s o.core) o.said) r
 ran-state {n} {w} {v} {r} {o} s a q =

@@ -15,11 +15,11 @@ unfolding says
 says-append s [] fs = refl
 says-append s (e ∷ es) fs = says-append (with_effect s e) es fs
 
-pub says-held : (s : Sink) (es : List Effect) → length s.effects ≡ 512 → s.len + length es ≤ 512 → (held (says s es) ≡ held s ++ es) × ((says s es).len ≡ s.len + length es)
+pub says-held : (s : Sink) (es : List Effect) → length s.effects.items ≡ 512 → s.effects.len + length es ≤ 512 → (held (says s es) ≡ held s ++ es) × ((says s es).effects.len ≡ s.effects.len + length es)
 unfolding says
 says-held s [] f h = (sym (append-nil (held s)), omega arith)
 says-held s (e ∷ es) f h =
-    let k : s.len < 512 = omega arith in
+    let k : s.effects.len < 512 = omega arith in
     let l = with-len s e k in
     let more = says-held (with_effect s e) es (with-slots s e ∙ f) (omega arith) in
     (more.0 ∙ ap (λ (l : List Effect). l ++ es) (with-held s e f k) ∙ append_assoc (held s) (e ∷ []) es, omega arith)

@@ -9,17 +9,14 @@ use lib.Seq.{set-get_or}
 use Rattle.isolated.specs.Flags.{flags}
 use Rattle.isolated.proofs.Laws.{length-flags}
 use Rattle.store.specs.declared.Status.{Status}
+use Rattle.store.specs.Stored.{unset}
 use Rattle.machine.specs.declared.ComponentStatus.{ComponentStatus}
 use Rattle.machine.specs.declared.Work.{Work}
 use Rattle.machine.specs.Status.{status_at, touch}
-use Rattle.machine.specs.View.{stay, status_of, statuses_of, statuses_are, core_of, Fit, Ran}
-use Rattle.machine.proofs.Laws.{unset, at-view, change-view}
+use Rattle.machine.specs.View.{stay, status_of, statuses_of, statuses_are, core_of, Ran}
+use Rattle.machine.proofs.Laws.{at-view, change-view}
 use Rattle.machine.proofs.Owned.{Owned, statuses-full, words-four}
 use Rattle.machine.proofs.Runs.{rot_is, ran-rot}
-
--- Both flags off, the retry count kept.
-abbrev pub off : Status → Status
-off s = record { retry = s.retry; awaiting_boot = false; released = false }
 
 module _ (n : ℕ) (w : Work) (p : ℕ) (own : Owned w) (few : n ≤ 255) (h : p < n) where
   pub stored_at : status_at (statuses_of n w.rot) p ≡ status_of (get_or (flags w.rot.isolated) p false) (get_or w.rot.statuses p unset)
@@ -31,14 +28,15 @@ module _ (n : ℕ) (w : Work) (p : ℕ) (own : Owned w) (few : n ≤ 255) (h : p
 
   -- What is stored changes by g, where f says the same of a status.
   pub ran-change : (f : ComponentStatus → ComponentStatus) (g : Status → Status) → ((b : Bool) (s : Status) → status_of b (g s) ≡ f (status_of b s))
+      → {x : Status} → x ≡ g (get_or w.rot.statuses p unset)
       → Ran n w (stay (statuses_are (touch f (statuses_of n w.rot) p) (core_of n w)))
-      (rot_is (record { statuses = set w.rot.statuses p (g (get_or w.rot.statuses p unset)); isolated = w.rot.isolated; cursor = w.rot.cursor; pending_commit = w.rot.pending_commit }) w)
+      (rot_is (record { statuses = set w.rot.statuses p x; isolated = w.rot.isolated; cursor = w.rot.cursor; pending_commit = w.rot.pending_commit }) w)
   unfolding statuses_of
-  ran-change f g same =
+  ran-change f g same is =
       let bs = flags w.rot.isolated in
       let full = statuses-full w own in
       let bits = length-flags w.rot.isolated (words-four w own) in
       ran-rot refl
       (ap (λ (st : List ComponentStatus). statuses_are st (core_of n w))
-      (change-view n bs w.rot.statuses (omega arith) (omega arith) p f g (get_or bs p false) (sym (set-get_or bs p false)) (same (get_or bs p false)) h))
+      (change-view n bs w.rot.statuses (omega arith) (omega arith) p f g (get_or bs p false) (sym (set-get_or bs p false)) is (same (get_or bs p false)) h))
       (λ fit. record { clean = fit.clean; low = fit.low })

@@ -5,6 +5,7 @@ use Rattle.model.specs.declared.Effect.{Effect}
 use Rattle.isolated.specs.Flags.{flags}
 use Rattle.store.specs.declared.Sink.{Sink}
 use Rattle.store.specs.declared.Status.{Status}
+use Rattle.store.specs.Stored.{unset}
 use Rattle.store.specs.Sink.{with_effect}
 use Rattle.machine.specs.declared.ComponentStatus.{ComponentStatus}
 use Rattle.machine.specs.declared.ComponentLifecycle.{ComponentLifecycle}
@@ -72,7 +73,7 @@ core_of n w = record { state = w.state; cursor = w.rot.cursor; statuses = status
 
 -- What is kept at power-on: nothing isolated, every count 0, every flag off, the cursor at the start.
 abbrev pub new_rot : Rot
-new_rot = record { statuses = replicate 255 record { retry = 0; awaiting_boot = false; released = false }; isolated = record { words = 0 ∷ 0 ∷ 0 ∷ 0 ∷ [] }; cursor = 0; pending_commit = false }
+new_rot = record { statuses = replicate 255 unset; isolated = record { words = 0 ∷ 0 ∷ 0 ∷ 0 ∷ [] }; cursor = 0; pending_commit = false }
 
 -- A machine at work with one part changed.
 abbrev pub state_is : State → Work → Work

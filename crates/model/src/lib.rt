@@ -2,7 +2,7 @@
 // Names are the source's.
 #![tactic(auto)]
 
-ghost use Rattle.std.specs.Prelude.{◌≡◌};
+ghost use Rattle.std.specs.Prelude.{◌≡◌, ◌<◌};
 ghost use Rattle.model.specs.Vocabulary.{id_of, region_of, plain_attrs, in_region, depending_on, named};
 
 // Names one component. What it stands for is the board's affair.
@@ -21,6 +21,13 @@ impl ComponentId {
     {
         self.0 // the component's number
     }
+
+    // Its number as a place in a table by id, which has 256 places.
+    pub fn index(self) -> usize
+        ensures { (result ≡ self.0) × (result < 256) }
+    {
+        usize::from(self.0)
+    }
 }
 
 impl From<u8> for ComponentId {
@@ -28,6 +35,14 @@ impl From<u8> for ComponentId {
 
     fn from(id: u8) -> Self {
         ComponentId::new(id)
+    }
+}
+
+impl From<ComponentId> for u64 {
+    ghost from_gives = { λ id number. number ≡ id.0 };
+
+    fn from(id: ComponentId) -> Self {
+        u64::from(id.0)
     }
 }
 

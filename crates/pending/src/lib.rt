@@ -45,11 +45,7 @@ impl Pending {
     pub fn front(self) -> Option<Event>
         ensures { result ≡ first_of (events self) }
     {
-        if self.count() == 0 {
-            None
-        } else {
-            Some(self.entries.items[0])
-        }
+        self.entries.as_slice().first().copied()
     }
 
     // The queue without its front event.

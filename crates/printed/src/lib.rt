@@ -17,7 +17,7 @@ fn push_option(l: Line, id: Option<ComponentId>) -> Line
 {
     match id {
         None => text::push_field(l, b"-"),
-        Some(id) => text::push_number(l, u64::from(id.0)),
+        Some(id) => text::push_number(l, u64::from(id)),
     }
 }
 
@@ -38,7 +38,7 @@ pub fn state_line(state: State) -> Line
         State::AwaitingReady(id) => awaiting_line(id),
         State::Ready => text::name_line(b'S', b"Ready"),
         State::Updating => text::name_line(b'S', b"Updating"),
-        State::Recovering(id) => text::number_line(b'S', b"Recovering", u64::from(id.0)),
+        State::Recovering(id) => text::number_line(b'S', b"Recovering", u64::from(id)),
         State::Locked => text::name_line(b'S', b"Locked"),
     }
 }
@@ -63,7 +63,7 @@ fn push_flag(l: Line, on: bool) -> Line
 pub fn status_line(id: ComponentId, status: ComponentStatus) -> Line
     ensures { text_of result ≡ status_line id status }
 {
-    let named = text::push_number(text::push(text::empty(), b'T'), u64::from(id.0));
+    let named = text::push_number(text::push(text::empty(), b'T'), u64::from(id));
     let counted = text::push_number(
         push_lifecycle(named, status.lifecycle),
         u64::from(status.retry),

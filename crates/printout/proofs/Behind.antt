@@ -24,17 +24,17 @@ use Rattle.printout.proofs.Small.{run_small, refusal-short}
 -- ---- A line behind what is printed
 
 -- A line that went into the array stands behind what was there.
-pub behind : (p : Printout) (s exit : List ℕ) (n : ℕ) → length p.bytes ≡ 65600
-    → Some n ≡ room_after p.bytes p.len s
-    → exit ≡ written p.bytes p.len s
-    → Lengthened p s record { bytes = exit; len = n }
+pub behind : (p : Printout) (s exit : List ℕ) (n : ℕ) → length p.bytes.items ≡ 65600
+    → Some n ≡ room_after p.bytes.items p.bytes.len s
+    → exit ≡ written p.bytes.items p.bytes.len s
+    → Lengthened p s record { bytes = record { items = exit; len = n } }
 behind p s exit n full r e =
-    let at = room_at p.bytes p.len s n r in
-    let front = take p.len p.bytes ++ s in
-    let rest = drop (p.len + length s) p.bytes in
-    let parts : exit ≡ front ++ rest = e ∙ sym (fitted p.bytes p.len s at.1).1 in
-    let part : length (take p.len p.bytes) ≡ p.len = length-take-le _ _ (omega (arith, at.1)) in
-    let long : length front ≡ n = omega (arith, length-append (take p.len p.bytes) s, part, at.0) in
+    let at = room_at p.bytes.items p.bytes.len s n r in
+    let front = shown p ++ s in
+    let rest = drop (p.bytes.len + length s) p.bytes.items in
+    let parts : exit ≡ front ++ rest = e ∙ sym (fitted p.bytes.items p.bytes.len s at.1).1 in
+    let part : length (shown p) ≡ p.bytes.len = length-take-le _ _ (omega (arith, at.1)) in
+    let long : length front ≡ n = omega (arith, length-append (shown p) s, part, at.0) in
     record {
       fits = λ a b. record {
         text = ap (take n) parts ∙ take_at front rest n long;
@@ -43,10 +43,10 @@ behind p s exit n full r e =
     }
 
 -- There is room for it.
-pub no_room : (p : Printout) (s : List ℕ) (r : Printout) → length p.bytes ≡ 65600
-    → None ≡ room_after p.bytes p.len s
+pub no_room : (p : Printout) (s : List ℕ) (r : Printout) → length p.bytes.items ≡ 65600
+    → None ≡ room_after p.bytes.items p.bytes.len s
     → Lengthened p s r
-no_room p s r full e = record { fits = λ a b. absurd (omega (arith, room-full p.bytes p.len s e)) }
+no_room p s r full e = record { fits = λ a b. absurd (omega (arith, room-full p.bytes.items p.bytes.len s e)) }
 
 -- ---- What `replay` prints
 
@@ -54,7 +54,7 @@ no_room p s r full e = record { fits = λ a b. absurd (omega (arith, room-full p
 pub record Awaits (s : List ℕ) (p : Printout) (a : Answer) : Type 0 where
   pub whole : shown p ++ pick (eqb a.number 0) [] (refusal_line a.number a.place a.other) ≡ printed_of s
   pub small : a.number ≤ 9
-  pub room : p.len ≤ 65536
+  pub room : p.bytes.len ≤ 65536
 
 module _ (s : List ℕ) (p : Printout) (a : Answer) (h : Awaits s p a) where
   abbrev line : List ℕ
@@ -84,7 +84,7 @@ module _ (s : List ℕ) (p : Printout) (a : Answer) (h : Awaits s p a) where
 
 -- A longer input.
 pub longer-input : (s bytes : List ℕ) → 65536 < length s
-    → Awaits s (record { bytes = bytes; len = 0 }) (record { number = 1; place = 0; other = 0; written = 0; settled = 0 })
+    → Awaits s (record { bytes = record { items = bytes; len = 0 } }) (record { number = 1; place = 0; other = 0; written = 0; settled = 0 })
 unfolding printed_of
 longer-input s bytes h =
     let line = refusal_line 1 0 0 in
@@ -118,7 +118,7 @@ module _ (s out rest : List ℕ) (a : Answer) (exit : List ℕ) (full : length o
   unfolding printed_of
   short-input h = sym (ap (λ (t : Bool). pick t (refusal_line 1 0 0) (printed_from o)) (le-ltb 65536 (length s) h))
 
-  pub run-through : length s ≤ 65536 → Awaits s (record { bytes = exit ++ rest; len = a.written }) a
+  pub run-through : length s ≤ 65536 → Awaits s (record { bytes = record { items = exit ++ rest; len = a.written } }) a
   unfolding printed_from numbers_of
   run-through h =
       record {

@@ -4,18 +4,18 @@
 ghost use Rattle.text.specs.Lines.{text_of, Built};
 ghost use Rattle.printout.specs.Program.{refusal_line, printed_of, Prints, Lengthened};
 
+use bounded::Bounded;
 use sheet::Answer;
 use text::Line;
 
-// A transcript buffer of 65,536 bytes with room for one line behind it, and how many of the bytes are printed.
-// No `Bounded`: a part of it is lent to `run`, and the array stands alone for that.
+// What is printed: a transcript of up to 65,536 bytes, and room for one line behind it.
 #[derive(Clone, Copy)]
 pub struct Printout {
-    pub bytes: [u8; 65600],
-    pub len: usize,
+    pub bytes: Bounded<u8, 65600>,
 }
 
-// The answer to an input of more than 65,536 bytes, which is not run: question 1, at no line.
+// The answer to an input of more than 65,536 bytes, which is not run: question 1, at no line. `sheet` gives the numbers of the
+// questions as C reads them, and this is its number for question 1.
 const TOO_LONG: Answer = Answer {
     number: 1,
     place: 0,
@@ -24,7 +24,7 @@ const TOO_LONG: Answer = Answer {
     settled: 0,
 };
 
-// The line of a refusal.
+// The line of a refusal. By hand in fixed memory, as text's lines are: no `Display` promises its text there.
 pub fn refusal_line(number: u64, place: u64, other: u64) -> Line
     ensures { Built (refusal_line number place other) result }
 {
@@ -40,8 +40,8 @@ impl Printout {
     fn lengthen(&mut self, l: Line)
         ensures { Lengthened self.old (text_of l) self.new }
     {
-        if let Some(end) = text::append(&mut self.bytes, self.len, l) {
-            self.len = end;
+        if let Some(end) = text::append(&mut self.bytes.items, self.bytes.len, l) {
+            self.bytes.len = end;
         }
     }
 }
@@ -56,9 +56,12 @@ pub fn replay(input: &[u8]) -> Printout
     } else {
         TOO_LONG
     };
+    // The cast loses nothing: at most the 65,536 bytes that are lent to `run` are written.
     let mut printed = Printout {
-        bytes,
-        len: answer.written as usize,
+        bytes: Bounded {
+            items: bytes,
+            len: answer.written as usize,
+        },
     };
     if answer.number != 0 {
         printed.lengthen(refusal_line(answer.number, answer.place, answer.other));

@@ -7,8 +7,8 @@ ghost use Rattle.reader.specs.Read.{part_after, Reads, ReadAs};
 use components::ComponentList;
 use lines::Row;
 
-// Which lines may come: the B line, then C lines, then E and R lines. After a bad line none may: `Wrong` is a state too, and an
-// Option would only name it otherwise.
+// Which lines may come: the B line, then C lines, then E and R lines. After a bad line none may: `Wrong` is a state too, in which
+// the definitions read on, so that an Option would have to be made one again.
 #[derive(Clone, Copy, Debug, PartialEq, Eq)]
 pub enum Part {
     Opening,

@@ -28,14 +28,12 @@ pub fn recovers_in(state: State) -> Option<ComponentId>
 fn set_retry(member: Member, w: Work, retry: u8) -> Work
     ensures { Does (size member.chain) w (λ c. stay (retry_at (entries member.chain) member.id retry c)) result }
 {
-    let n = member.chain.count();
-    let s = machine::status_at(w.rot, n, member.place);
+    let s = machine::status_at(w.rot, member.chain.count(), member.place);
     let counted = Status {
         retry,
-        awaiting_boot: s.awaiting_boot,
-        released: s.released,
+        ..Status::from(s)
     };
-    machine::put_status(w, n, member.place, counted)
+    machine::put_status(w, member.place, counted)
 }
 
 fn start_over(member: Member, w: Work) -> Work
@@ -47,15 +45,16 @@ fn start_over(member: Member, w: Work) -> Work
 
 // Recovery is over without success: a component that can be isolated is, and the rest boots. A Required one is reported and
 // RecoveryFailed is emitted, which locks once it is settled; until then the state is kept.
-fn exhaust_recovery(member: Member, w: Work) -> Work
+fn exhaust_recovery(member: Member, mut w: Work) -> Work
     ensures { Does (size member.chain) w (exhausted (entries member.chain) member.id) result }
 {
     if corruption::gates_failed(member.policy()) {
         let v = corruption::gate_by_policy(member, w);
         return start_over(member, v);
     }
-    let u = machine::say(w, Effect::ReportRecoveryFailed(member.id));
-    machine::say(u, Effect::Emit(Event::RecoveryFailed))
+    w.sink.emit(Effect::ReportRecoveryFailed(member.id));
+    w.sink.emit(Effect::Emit(Event::RecoveryFailed));
+    w
 }
 
 // One retry more; the count stops at 255.

@@ -8,5 +8,5 @@ fn main(rt: HostRuntime) -> io::Result<()> {
     let mut input = Vec::new(rt.alloc());
     rt.stdin().take(65537).read_to_end(&mut input)?;
     let printed = printout::replay(&input);
-    rt.write_all(&printed.bytes[..printed.len])
+    rt.write_all(printed.bytes.as_slice())
 }

@@ -16,7 +16,7 @@ use Rattle.rot.specs.Idle.{idle}
 use Rattle.rot.specs.Stepped.{bare, Stepped}
 use Rattle.rot.proofs.Named.{step-idle}
 
-pub idle-stepped : (c : Chain) (max : ℕ) (s : State) (r : Rot) (e : Event) → idle (entries c) s e ≡ true → (k : Sink) → k.len ≡ 0 → Stepped c max (bare s r) e (record { state = s; rot = r; sink = k })
+pub idle-stepped : (c : Chain) (max : ℕ) (s : State) (r : Rot) (e : Event) → idle (entries c) s e ≡ true → (k : Sink) → k.effects.len ≡ 0 → Stepped c max (bare s r) e (record { state = s; rot = r; sink = k })
 idle-stepped c max s r e h k z =
     let stays = step-idle (entries c) max (core_of (size c) (bare s r)) e h in
     let none = ap (λ (o : Out). length o.said) stays in

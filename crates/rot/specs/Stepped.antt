@@ -21,6 +21,6 @@ outcome c max w e = step_of (entries c) max (core_of (size c) w) e
 pub record Stepped (c : Chain) (max : ℕ) (w : Work) (e : Event) (r : Work) : Type 0 where
   pub core : core_of (size c) r ≡ (outcome c max w e).core
   pub effects : held r.sink ≡ (outcome c max w e).said
-  pub count : r.sink.len ≡ length (outcome c max w e).said
-  pub few : r.sink.len ≤ 2 * size c + 1
+  pub count : r.sink.effects.len ≡ length (outcome c max w e).said
+  pub few : r.sink.effects.len ≤ 2 * size c + 1
   pub fit : Fit (size c) w.rot → Fit (size c) r.rot

@@ -10,12 +10,12 @@ ghost use Rattle.rot.specs.Idle.{idle, idle_by};
 ghost use Rattle.rot.specs.Stepped.{bare, Stepped};
 
 use chain::{Chain, Member};
-use machine::{Rot, Work};
+use machine::Work;
 use model::{ComponentId, Event, State};
-use store::Sink;
 
-// Whom an event is about. For one that names no component the first of the chain stands in: its rule asks for none. It is read
-// in place, since a closure would copy the chain for every event.
+// Whom an event is about. For one that names no component the first of the chain stands in: its rule asks for none. No
+// Option: the rules of a number are one match (`numbered::apply`), so that all are given a member. It is read in place,
+// since a closure or a method by value would copy the chain for every event.
 fn about(chain: &Chain, event: Event) -> ComponentId
     requires { 0 < size chain.now }
     ensures { result ≡ whom (id_at (entries chain.now) 0) (named event) }
@@ -24,8 +24,8 @@ fn about(chain: &Chain, event: Event) -> ComponentId
 }
 
 // Does nothing come of the event whatever the machine is: no rule in this state, or an id outside the chain? `positions` is
-// the table by id of a chain of `n` components. Whoever keeps a machine in parts asks this first: a step copies them, and this
-// copies nothing.
+// the table by id of a chain of `n` components: with a chain in their place the call would ask for more than it did.
+// Whoever keeps a machine in parts asks this first: a step copies them, and this copies nothing.
 pub fn idles(positions: &[u8; 256], n: usize, state: State, event: Event) -> bool
     ensures { (result ≡ idle_by positions.now n state event) × ((c : Chain) → c.positions ≡ positions.now → n ≡ size c → result ≡ idle (entries c) state event) }
 {
@@ -35,20 +35,19 @@ pub fn idles(positions: &[u8; 256], n: usize, state: State, event: Event) -> boo
     let Some(id) = event.component_id() else {
         return false;
     };
-    n <= positions[id.0 as usize] as usize
+    n <= usize::from(positions[id.index()])
 }
 
-// One event on a machine between events: what it becomes, with the event's effects in the sink, and nothing of what the sink
-// held before. It is handed in, since filling a new one would cost more than most rules. There are at most 2N+1 effects, so
-// that none is ever dropped. Where nothing comes of the event the answer is given at once: each function that the machine
-// passes through copies it.
-pub fn step(chain: Chain, max_retry: u8, state: State, rot: Rot, sink: Sink, event: Event) -> Work
+// One event on a machine between events: what it becomes, with the event's effects in the sink, and nothing of what the
+// sink held before. The sink comes with the machine, since filling a new one would cost more than most rules. There are at
+// most 2N+1 effects, so that none is ever dropped. Where nothing comes of the event the answer is given at once: each
+// function that the machine passes through copies it.
+pub fn step(chain: Chain, max_retry: u8, mut w: Work, event: Event) -> Work
     requires { Accepted chain }
-    ensures { Stepped chain max_retry (bare state rot) event result }
+    ensures { Stepped chain max_retry (bare w.state w.rot) event result }
 {
-    let mut w = Work { state, rot, sink };
-    w.sink.len = 0;
-    if idles(&chain.positions, chain.count(), state, event) {
+    w.sink.effects.len = 0;
+    if idles(&chain.positions, chain.count(), w.state, event) {
         return w;
     }
     let id = about(&chain, event);
@@ -62,6 +61,6 @@ pub fn step(chain: Chain, max_retry: u8, state: State, rot: Rot, sink: Sink, eve
         max_retry,
         w,
         event,
-        table::rule_number(state, event),
+        table::rule_number(w.state, event),
     )
 }

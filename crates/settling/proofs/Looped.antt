@@ -48,7 +48,7 @@ module _ (ch : List Component) (max : ℕ) where
 -- At most 512 effects are left, so that 521 turns are enough.
 left-few : (m : Machine) → length (view m).left ≤ 512
 unfolding view held
-left-few m = omega (arith, m.room, length-drop m.dispatch.next (held m.work.sink), length-take m.work.sink.len m.work.sink.effects)
+left-few m = omega (arith, m.room, length-drop m.dispatch.next (held m.work.sink), length-take m.work.sink.effects.len m.work.sink.effects.items)
 
 -- While an effect waits, no number of turns changes anything.
 enough-by : (m : Machine) (w : Option Effect) → m.dispatch.waiting ≡ w → turning m 521 ≡ (settle (chain_of m) m.max_retry (view m)).machine

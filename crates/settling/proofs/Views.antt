@@ -87,11 +87,11 @@ moves-as b e = record { machine = λ c es h. b.machine c es h ∙ e c es; few = 
 
 module _ (m : Machine) where
   -- Nothing is left of a batch whose end is reached, and else the next effect and those after it.
-  held-short : length (held m.work.sink) ≤ m.work.sink.len
+  held-short : length (held m.work.sink) ≤ m.work.sink.effects.len
   unfolding held
-  held-short = omega (arith, length-take m.work.sink.len m.work.sink.effects)
+  held-short = omega (arith, length-take m.work.sink.effects.len m.work.sink.effects.items)
 
-  pub moves-becomes : (f : List Effect → Model → Model) (r : Machine) → Puts m r → Moves m.work.sink.len f m.dispatch r.dispatch → Becomes m (f (held m.work.sink) (view m)) r
+  pub moves-becomes : (f : List Effect → Model → Model) (r : Machine) → Puts m r → Moves m.work.sink.effects.len f m.dispatch r.dispatch → Becomes m (f (held m.work.sink) (view m)) r
   unfolding view
   moves-becomes f r p b = record {
     machine = (λ j. within (core_of (size (p.0.0 j)) (bare (p.1 j).state (p.1 j).rot)) (held (p.1 j).sink) r.dispatch) ∙ b.machine _ (held m.work.sink) held-short;
@@ -99,11 +99,11 @@ module _ (m : Machine) where
     max_retry = p.0.1;
   }
 
-  pub left-none : m.work.sink.len ≤ m.dispatch.next → (view m).left ≡ []
+  pub left-none : m.work.sink.effects.len ≤ m.dispatch.next → (view m).left ≡ []
   unfolding view
   left-none h = drop_of_length-le (held m.work.sink) {i = m.dispatch.next} (omega (arith, held-short))
 
-  pub left-some : length (held m.work.sink) ≡ m.work.sink.len → m.dispatch.next < m.work.sink.len → (view m).left ≡ next_effect m ∷ after m
+  pub left-some : length (held m.work.sink) ≡ m.work.sink.effects.len → m.dispatch.next < m.work.sink.effects.len → (view m).left ≡ next_effect m ∷ after m
   unfolding view
   left-some n h =
       drop-cons (held m.work.sink) m.dispatch.next LatchLockdown (omega (arith, n, h))
@@ -164,9 +164,6 @@ pub never : {A : Type 0} → false ≡ true → A
 never h = cc
 
 -- The step that settles the front event.
-pub chain-few : (m : Machine) → size m.chain ≤ 255
-chain-few m = omega (arith, length-take m.chain.list.len m.chain.list.entries, (accepted-sound m.chain.list.len (entries m.chain) m.accepted).few)
-
 module _ (m : Machine) (e : Event) where
   pub stepped-becomes : (r : Machine) → Works m r → Stepped m.chain m.max_retry (bare m.work.state m.work.rot) e r.work → Taken m.dispatch r.dispatch
       → Becomes m (front_taken (chain_of m) m.max_retry e (rest (view m).queue) (view m)) r

@@ -1,15 +1,16 @@
 -- What single functions do to the parts of the code's machine.
-use Rattle.std.specs.Prelude.{◌≡◌, List, ℕ, ◌≤◌, length, Option}
+use Rattle.std.specs.Prelude.{◌≡◌, false, List, ℕ, ◌≤◌, length, None}
 use Rattle.model.specs.declared.Effect.{Effect}
-use Rattle.pending.specs.Queue.{events, rest}
+use Rattle.pending.specs.Queue.{no_events, events, rest}
 use Rattle.machine.specs.View.{Core}
 use Rattle.settling.specs.declared.Dispatch.{Dispatch}
 use Rattle.settling.specs.declared.whole.Machine.{Machine}
 use Rattle.settling.specs.Settle.{Model, turn_of}
 use Rattle.settling.specs.View.{view, chain_of, within, Short}
 
-abbrev pub waits : Option Effect → Dispatch → Dispatch
-waits w d = record { next = d.next; waiting = w; pending = d.pending; failed = d.failed }
+-- Nothing waits, is queued or has failed.
+abbrev pub idle : Dispatch
+idle = record { next = 0; waiting = None; pending = no_events; failed = false }
 
 -- With any batch es of at most len effects, d changed by f is r; and r has at most 8 events queued.
 pub record Moves (len : ℕ) (f : List Effect → Model → Model) (d r : Dispatch) : Type 0 where

@@ -5,7 +5,7 @@ ghost use Rattle.std.specs.Prelude.{◌≡◌, true, false, None, ℕ, ◌+◌, 
 ghost use Rattle.pending.specs.Queue.{emits, rest};
 ghost use Rattle.settling.specs.Settle.{waiting_is, failed_is, latch, fail, enqueue, replied, hand_out, front_taken, turn_of, next_event, settle};
 ghost use Rattle.settling.specs.View.{view, chain_of, Becomes};
-ghost use Rattle.settling.specs.Parts.{Moves, Taken, Rested};
+ghost use Rattle.settling.specs.Parts.{idle, Moves, Taken, Rested};
 
 mod whole;
 
@@ -32,8 +32,22 @@ pub struct Dispatch {
     pub failed: bool,
 }
 
-// A dispatch goes with `len`, the number of effects of its batch. That is the length of the sink: kept in the dispatch too, the
-// two would have to be kept equal.
+impl Dispatch {
+    // Nothing waits, is queued or has failed. By name, as `new` of the other types, and no `Default`.
+    pub fn new() -> Self
+        ensures { result ≡ idle }
+    {
+        Dispatch {
+            next: 0,
+            waiting: None,
+            pending: Pending::new(),
+            failed: false,
+        }
+    }
+}
+
+// What follows are functions of a dispatch and no methods: each is named as its definition is. A dispatch goes with `len`, the
+// number of effects of its batch. That is the length of the sink: kept in the dispatch too, the two would have to be kept equal.
 
 // The first failure in a dispatch: of the batch of `len` effects nothing more is handed out.
 fn latch(mut d: Dispatch, len: usize) -> Dispatch
@@ -120,14 +134,7 @@ pub fn rested(mut d: Dispatch) -> Dispatch
 fn take_front(mut m: Machine, event: Event) -> Machine
     ensures { Becomes m (front_taken (chain_of m) m.max_retry event (rest (view m).queue) (view m)) result }
 {
-    m.work = rot::step(
-        m.chain,
-        m.max_retry,
-        m.work.state,
-        m.work.rot,
-        m.work.sink,
-        event,
-    );
+    m.work = rot::step(m.chain, m.max_retry, m.work, event);
     m.dispatch = taken(m.dispatch);
     m
 }
@@ -136,7 +143,7 @@ fn take_front(mut m: Machine, event: Event) -> Machine
 pub fn next_event(m: Machine) -> Option<Event>
     ensures { result ≡ next_event (view m) }
 {
-    if m.dispatch.waiting.is_some() || m.dispatch.next < m.work.sink.len {
+    if m.dispatch.waiting.is_some() || m.dispatch.next < m.work.sink.effects.len {
         return None;
     }
     m.dispatch.pending.front()
@@ -150,9 +157,9 @@ pub fn turn(mut m: Machine) -> Machine
     if m.dispatch.waiting.is_some() {
         return m;
     }
-    if m.dispatch.next < m.work.sink.len {
+    if m.dispatch.next < m.work.sink.effects.len {
         let effect = m.work.sink.get(m.dispatch.next);
-        m.dispatch = hand_out(m.dispatch, m.work.sink.len, effect);
+        m.dispatch = hand_out(m.dispatch, m.work.sink.effects.len, effect);
         return m;
     }
     if let Some(event) = m.dispatch.pending.front() {
@@ -167,13 +174,13 @@ fn at_rest(m: Machine) -> bool
     ensures { result ≡ true → Rested m }
 {
     m.dispatch.waiting.is_some()
-        || (m.work.sink.len <= m.dispatch.next
+        || (m.work.sink.effects.len <= m.dispatch.next
             && m.dispatch.pending.count() == 0
             && !m.dispatch.failed)
 }
 
 // Turns up to the next effect or the end; none while an effect waits. There are at most 512 effects left, 8 events queued,
-// and one turn more.
+// and one turn more: a count, since the definition counts turns too, and a `while` would have to be shown to end.
 pub fn settle(mut m: Machine) -> Machine
     ensures { Becomes m (settle (chain_of m) m.max_retry (view m)).machine result }
 {

@@ -20,6 +20,6 @@ pub struct Machine {
     pub dispatch: Dispatch,
     pub ghost accepted: { Accepted chain },
     pub ghost fit: { Fit (size chain) work.rot },
-    pub ghost room: { work.sink.len ≤ 512 },
+    pub ghost room: { work.sink.effects.len ≤ 512 },
     pub ghost few: { length (events dispatch.pending) ≤ 8 },
 }

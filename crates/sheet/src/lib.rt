@@ -9,6 +9,7 @@ ghost use Rattle.sheet.specs.Refused.{told, Drives};
 use components::ChainError;
 use driver::{End, RunError};
 use reader::BadSheet;
+use sm::CallError;
 
 // A number of the scope's questions or 0, its two places, bytes written, events settled: five numbers, as C reads them.
 #[repr(C)]
@@ -53,7 +54,8 @@ impl From<RunError> for Refusal {
     }
 }
 
-// The five numbers of what came of a call.
+// The five numbers of what came of a call. Question 7 is a reply that nothing waits for: its number is that of the step
+// calls. (A `usize` is widened by `as`: no `From` of it for a `u64` is there.)
 fn numbers(outcome: Result<(), Refusal>, written: u64, settled: u64) -> Answer
     ensures { result ≡ told outcome written settled }
 {
@@ -64,7 +66,9 @@ fn numbers(outcome: Result<(), Refusal>, written: u64, settled: u64) -> Answer
             let verdict = components::Answer::from(Err(error));
             (verdict.number, verdict.place, verdict.other)
         }
-        Err(Refusal::Run(RunError::NothingWaits(line))) => (7, line as u64, 0),
+        Err(Refusal::Run(RunError::NothingWaits(line))) => {
+            (CallError::NothingWaits.number(), line as u64, 0)
+        }
         Err(Refusal::Run(RunError::NoRoom)) => (8, 0, 0),
         Err(Refusal::Run(RunError::LimitReached)) => (9, 0, 0),
     };

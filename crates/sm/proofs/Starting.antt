@@ -21,10 +21,10 @@ use Rattle.machine.specs.View.{core_of}
 use Rattle.machine.proofs.New.{new-statuses}
 use Rattle.rot.specs.Stepped.{bare}
 use Rattle.settling.specs.declared.whole.Machine.{Machine}
+use Rattle.settling.specs.Parts.{idle}
 use Rattle.settling.specs.View.{view, within, Rests, Valid}
-use Rattle.settling.proofs.Views.{chain-few}
 use Rattle.sm.specs.Calls.{start_of}
-use Rattle.sm.specs.Gives.{untouched, idle, Fresh, NewGives}
+use Rattle.sm.specs.Gives.{untouched, Fresh, NewGives}
 
 -- A machine that was made is valid.
 pub made-valid : (l : ComponentList) (max : ℕ) (m : Machine) → NewGives l max (Ok m) → Valid m
@@ -47,7 +47,7 @@ start-fresh l max m g =
     let chain : entries m.chain ≡ entries_of l = ap entries_of g.list in
     let same : view m ≡ start_of (entries_of l) =
     (λ j. within (core_of (size m.chain) (bare (g.work j).state (g.work j).rot)) (held (g.work j).sink) (g.dispatch j))
-    ∙ ap (λ (st : List ComponentStatus). record { core = record { state = PowerOnReset; cursor = 0; statuses = st; window = false }; waiting = None; left = []; queue = []; failed = false }) (new-statuses (size m.chain) (chain-few m) ∙ ap (λ (ch : List Component). replicate (length ch) fresh) chain)
+    ∙ ap (λ (st : List ComponentStatus). record { core = record { state = PowerOnReset; cursor = 0; statuses = st; window = false }; waiting = None; left = []; queue = []; failed = false }) (new-statuses (size m.chain) m.chain.few ∙ ap (λ (ch : List Component). replicate (length ch) fresh) chain)
     in
     record {
       machine = same;

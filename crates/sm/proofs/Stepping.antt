@@ -90,7 +90,7 @@ module _ (m : Machine) (e : Event) where
   begin-refused h = ap (λ (b : Bool). pick b (answered (settle (chain_of m) m.max_retry (queue_is (e ∷ []) (view m)))) (refused 10 (view m))) h
 
   -- The event stands alone in the queue.
-  pub begun : done ≡ true → (v : Machine) → Puts m v → Moves m.work.sink.len (λ es. enqueue e) m.dispatch v.dispatch → Becomes m (queue_is (e ∷ []) (view m)) v
+  pub begun : done ≡ true → (v : Machine) → Puts m v → Moves m.work.sink.effects.len (λ es. enqueue e) m.dispatch v.dispatch → Becomes m (queue_is (e ∷ []) (view m)) v
   begun h v p b =
       let none : (view m).queue ≡ [] = (done-both (view m).waiting (view m).queue h).1 in
       becomes-as (moves-becomes m (λ (es : List Effect). enqueue e) v p b)

@@ -12,7 +12,6 @@ use Rattle.machine.specs.View.{joined, statuses_of}
 use Rattle.chain.specs.Tables.{size}
 use Rattle.settling.specs.declared.whole.Machine.{Machine}
 use Rattle.settling.specs.View.{view}
-use Rattle.settling.proofs.Views.{chain-few}
 use Rattle.sm.specs.Isolation.{isolation}
 
 iso-joined : (bs : List Bool) (ss : List Status) → length bs ≤ length ss → map iso (joined bs ss) ≡ bs
@@ -32,7 +31,7 @@ trues-none (false ∷ bs) n = trues-none bs n
 module _ (m : Machine) (full : length m.work.rot.statuses ≡ 255) where
   flagged : map iso (view m).core.statuses ≡ take (size m.chain) (flags m.work.rot.isolated)
   unfolding view statuses_of
-  flagged = iso-joined (take (size m.chain) (flags m.work.rot.isolated)) (take (size m.chain) m.work.rot.statuses) (omega (arith, chain-few m, length-take (size m.chain) (flags m.work.rot.isolated), length-take (size m.chain) m.work.rot.statuses))
+  flagged = iso-joined (take (size m.chain) (flags m.work.rot.isolated)) (take (size m.chain) m.work.rot.statuses) (omega (arith, m.chain.few, length-take (size m.chain) (flags m.work.rot.isolated), length-take (size m.chain) m.work.rot.statuses))
 
   pub words-say : flags m.work.rot.isolated ≡ isolation m
   words-say = sym (take-append-drop (size m.chain) (flags m.work.rot.isolated)) ∙ (λ j. sym flagged j ++ m.fit.clean j)

@@ -3,12 +3,10 @@ use Rattle.std.specs.Prelude.{◌≡◌, false, ℕ, ◌≤◌, length, None, Re
 use Rattle.components.specs.Chain.{entries_of, verdict_of, no_refusal}
 use Rattle.model.specs.declared.State.{State}
 use Rattle.store.specs.Sink.{empty_sink}
-use Rattle.pending.specs.Queue.{no_events}
 use Rattle.machine.specs.View.{new_rot}
 use Rattle.machine.specs.declared.Work.{Work}
 use Rattle.components.specs.declared.ComponentList.{ComponentList}
 use Rattle.components.specs.declared.ChainError.{ChainError}
-use Rattle.settling.specs.declared.Dispatch.{Dispatch}
 use Rattle.settling.specs.declared.whole.Machine.{Machine}
 use Rattle.settling.specs.View.{view, chain_of, Valid}
 use Rattle.sm.specs.declared.CallError.{CallError}
@@ -19,10 +17,6 @@ use Rattle.sm.specs.Calls.{Expected, start_of}
 -- No component was touched, and no effect given.
 abbrev pub untouched : State → Work
 untouched s = record { state = s; rot = new_rot; sink = empty_sink }
-
--- Nothing waits, is queued or has failed.
-abbrev pub idle : Dispatch
-idle = record { next = 0; waiting = None; pending = no_events; failed = false }
 
 -- The machine of an accepted list and a max_retry, at power-on. What its arrays hold past their lengths is left open.
 pub record Fresh (l : ComponentList) (max : ℕ) (m : Machine) : Type 0 where

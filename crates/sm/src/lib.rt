@@ -9,13 +9,12 @@ ghost use Rattle.machine.specs.Status.{status_at, iso};
 ghost use Rattle.settling.specs.View.{view, chain_of};
 ghost use Rattle.sm.specs.Calls.{done_by, begin_of, reply_of};
 ghost use Rattle.sm.specs.Isolation.{isolation};
-ghost use Rattle.sm.specs.Gives.{untouched, idle, Fresh, NewGives, CallGives, reported, number_of};
+ghost use Rattle.sm.specs.Gives.{untouched, Fresh, NewGives, CallGives, reported, number_of};
 
 use chain::Chain;
 use components::{ChainError, ComponentList};
 use machine::{ComponentStatus, Rot, Work};
 use model::{Effect, Event, State};
-use pending::Pending;
 use settling::{Dispatch, Machine, Reply};
 use store::Sink;
 
@@ -46,6 +45,18 @@ pub struct Called {
     pub effect: Option<Effect>,
 }
 
+impl Called {
+    // Document 01's number of the call's answer: 0 for a call that was not refused.
+    pub fn number(self) -> u64
+        ensures { result ≡ number_of self.answer }
+    {
+        match self.answer {
+            Ok(()) => 0,
+            Err(error) => error.number(),
+        }
+    }
+}
+
 // No component was touched, and no effect given, in this state.
 fn at_work(state: State) -> Work
     ensures { result ≡ untouched state }
@@ -54,18 +65,6 @@ fn at_work(state: State) -> Work
         state,
         rot: Rot::new(),
         sink: Sink::new(),
-    }
-}
-
-// Nothing waits, is queued or has failed.
-fn idle() -> Dispatch
-    ensures { result ≡ idle }
-{
-    Dispatch {
-        next: 0,
-        waiting: None,
-        pending: Pending::new(),
-        failed: false,
     }
 }
 
@@ -78,7 +77,7 @@ fn started(list: ComponentList, max_retry: u8) -> Machine
         chain: Chain::of(list),
         max_retry,
         work: at_work(State::PowerOnReset),
-        dispatch: idle(),
+        dispatch: Dispatch::new(),
     }
 }
 
@@ -116,7 +115,7 @@ pub fn begin(mut machine: Machine, event: Event) -> Called
     if !is_done(machine) {
         return report(machine, Err(CallError::NotDone));
     }
-    machine.dispatch = settling::enqueue(machine.dispatch, machine.work.sink.len, event);
+    machine.dispatch = settling::enqueue(machine.dispatch, machine.work.sink.effects.len, event);
     report(settling::settle(machine), Ok(()))
 }
 
@@ -127,7 +126,7 @@ pub fn reply(mut machine: Machine, reply: Reply) -> Called
     if machine.dispatch.waiting.is_none() {
         return report(machine, Err(CallError::NothingWaits));
     }
-    machine.dispatch = settling::replied(machine.dispatch, machine.work.sink.len, reply);
+    machine.dispatch = settling::replied(machine.dispatch, machine.work.sink.effects.len, reply);
     report(settling::settle(machine), Ok(()))
 }
 

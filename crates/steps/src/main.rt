@@ -1,9 +1,9 @@
 // Reads lines of numbers and answers each. A line is a case of its own, or a step call on the machine at hand.
 //
 // A case is a row of numbers: max_retry, n, n entries (id, kind, policy, region, dependency or 256), state, its component
-// or 256, cursor, window, n statuses (isolated, retry, awaiting_boot, released), event and three numbers of it. The answer
-// is what one step makes of it: state, its component or 256, cursor, window, n statuses, the number of effects, and four
-// numbers for each effect. A list that is no chain is answered with its refusal's number, place and other place.
+// or 256, cursor, commit window, n statuses (isolated, retry, awaiting_boot, released), event and three numbers of it. The
+// answer is what one step makes of it: state, its component or 256, cursor, window, n statuses, the number of effects, and
+// four numbers for each effect. A list that is no chain is answered with its refusal's number, place and other place.
 //
 // A line whose first number is 256 or more is a step call. 256, max_retry, n, n entries: `new`, answered with the number
 // and both places. 257 with an event of four numbers: `begin`. 258, 259 with an event, 260: `reply` done, then, failed.
@@ -28,31 +28,47 @@ use machine::{ComponentStatus, Rot, Work};
 use model::{BootFailureKind, Component, ComponentId, Effect, Event, PowerOnResult, State};
 use pending::Pending;
 use settling::{Dispatch, Machine, Reply};
-use sm::{CallError, Called};
+use sm::Called;
 use std::alloc::AllocError;
 use std::fmt::Write;
 use std::io;
 use std::io::{Read, Stdout};
 use store::{Sink, Status};
 
-// ---- from numbers: the rows of the comparisons with the Rust are numbers, and the types are those of other crates, so that no
-// `From` of a number can stand here.
+// ---- from numbers: `From<u64> for X` may stand only in the crate of X, where numbers that only the comparisons use do not
+// belong.
 
-// The number at place i, and 0 past the end.
-fn number_at(ns: &[u64], i: usize) -> u64 {
-    if i < ns.len() { ns[i] } else { 0 }
+// A part of a line's numbers. What is read of it is told by the place, counted from where the part begins.
+#[derive(Clone, Copy)]
+struct Part<'a> {
+    numbers: &'a [u64],
 }
 
-fn byte_at(ns: &[u64], i: usize) -> u8 {
-    (number_at(ns, i) % 256) as u8
-}
+impl Part<'_> {
+    // The part that begins at place i. Past the end there are no numbers.
+    fn after(self, i: usize) -> Self {
+        Part {
+            numbers: self.numbers.get(i..).unwrap_or(&[]),
+        }
+    }
 
-fn flag_at(ns: &[u64], i: usize) -> bool {
-    number_at(ns, i) == 1
-}
+    // The number at place i, and 0 past the end.
+    fn number(self, i: usize) -> u64 {
+        self.numbers.get(i).copied().unwrap_or(0)
+    }
 
-fn id_at(ns: &[u64], i: usize) -> ComponentId {
-    ComponentId::new(byte_at(ns, i))
+    // The number is brought into a byte, as the head of this file says.
+    fn byte(self, i: usize) -> u8 {
+        (self.number(i) % 256) as u8
+    }
+
+    fn flag(self, i: usize) -> bool {
+        self.number(i) == 1
+    }
+
+    fn id(self, i: usize) -> ComponentId {
+        ComponentId::new(self.byte(i))
+    }
 }
 
 // A number that is at most `most`.
@@ -62,41 +78,34 @@ fn up_to(n: u64, most: usize) -> usize
     (n as usize).min(most)
 }
 
-fn component_at(ns: &[u64], i: usize) -> Component
-    requires { i < 4096 }
-{
+fn component_of(part: Part) -> Component {
     cases::component_of(
-        number_at(ns, i),
-        number_at(ns, i + 1),
-        number_at(ns, i + 2),
-        number_at(ns, i + 3),
-        number_at(ns, i + 4),
+        part.number(0),
+        part.number(1),
+        part.number(2),
+        part.number(3),
+        part.number(4),
     )
 }
 
-// The entries whose number stands at place i. Of a list with more than 255, 256 are handed in, so that it is refused as
-// too long.
-fn list_of(ns: &[u64], i: usize) -> ComponentList
-    requires { i < 16 }
-{
+// A number of entries, and the entries. Of a list with more than 255, 256 are handed in, so that it is refused as too long.
+// No `chunks`: an entry whose numbers are missing counts too, its numbers as 0.
+fn list_of(part: Part) -> ComponentList {
     let mut list = ComponentList::new();
-    for k in 0..up_to(number_at(ns, i), 256) {
-        list = list.push(component_at(ns, i + 1 + 5 * k));
+    for k in 0..up_to(part.number(0), 256) {
+        list = list.push(component_of(part.after(1 + 5 * k)));
     }
     list
 }
 
-fn state_at(ns: &[u64], i: usize) -> State
-    requires { i < 4096 }
-{
-    match number_at(ns, i) {
+fn state_of(part: Part) -> State {
+    match part.number(0) {
         0 => State::PowerOnReset,
         1 => State::PreSupervision,
-        2 if number_at(ns, i + 1) < 256 => State::AwaitingReady(Some(id_at(ns, i + 1))),
-        2 => State::AwaitingReady(None),
+        2 => State::AwaitingReady(u8::try_from(part.number(1)).ok().map(ComponentId::new)),
         3 => State::Ready,
         4 => State::Updating,
-        5 => State::Recovering(id_at(ns, i + 1)),
+        5 => State::Recovering(part.id(1)),
         _ => State::Locked,
     }
 }
@@ -117,12 +126,10 @@ fn failure_of(n: u64) -> BootFailureKind {
     }
 }
 
-fn event_at(ns: &[u64], i: usize) -> Event
-    requires { i < 4096 }
-{
-    let id = id_at(ns, i + 1);
-    match number_at(ns, i) {
-        0 => Event::PowerGood(power_on_of(number_at(ns, i + 1))),
+fn event_of(part: Part) -> Event {
+    let id = part.id(1);
+    match part.number(0) {
+        0 => Event::PowerGood(power_on_of(part.number(1))),
         1 => Event::VerificationPassed(id),
         2 => Event::VerificationFailed(id),
         3 => Event::ComponentReady(id),
@@ -138,8 +145,8 @@ fn event_at(ns: &[u64], i: usize) -> Event
         13 => Event::RecoveryFailed,
         14 => Event::BootFailed {
             id,
-            checkpoint: (number_at(ns, i + 2) % 65536) as u16,
-            kind: failure_of(number_at(ns, i + 3)),
+            checkpoint: (part.number(2) % 65536) as u16,
+            kind: failure_of(part.number(3)),
         },
         15 => Event::Timeout(id),
         16 => Event::CommitTimeout,
@@ -147,55 +154,49 @@ fn event_at(ns: &[u64], i: usize) -> Event
     }
 }
 
-// The isolated positions of a case whose n statuses begin at place i: none is past the chain.
-fn isolated_at(ns: &[u64], i: usize, n: usize) -> Isolated
-    requires { (i < 4096) × (n ≤ 255) }
+// The isolated positions of n statuses: none is past the chain.
+fn isolated_of(part: Part, n: usize) -> Isolated
     ensures { drop n (flags result) ≡ replicate (256 - n) false }
 {
     let mut set = Isolated::new();
-    for p in 0..n {
-        if flag_at(ns, i + 4 * p) {
+    for (p, numbers) in (0..n).zip(part.numbers.chunks(4)) {
+        let status = Part { numbers };
+        if status.flag(0) {
             set = set.insert(p);
         }
     }
     set
 }
 
-// What is stored of the components of a case. What stands past the chain stays as it is in a new machine.
-fn statuses_at(ns: &[u64], i: usize, n: usize) -> [Status; 255]
-    requires { (i < 4096) × (n ≤ 255) }
-{
-    let unset = Status {
-        retry: 0,
-        awaiting_boot: false,
-        released: false,
-    };
-    let mut statuses = [unset; 255];
-    for p in 0..n {
-        let q = i + 4 * p;
-        statuses[p] = Status {
-            retry: byte_at(ns, q + 1),
-            awaiting_boot: flag_at(ns, q + 2),
-            released: flag_at(ns, q + 3),
+// What is stored of n components. What stands past the chain, and a status whose numbers are missing, is that of a new machine.
+fn statuses_of(part: Part, n: usize) -> [Status; 255] {
+    let mut statuses = [Status::new(); 255];
+    for (kept, numbers) in statuses.iter_mut().take(n).zip(part.numbers.chunks(4)) {
+        let status = Part { numbers };
+        *kept = Status {
+            retry: status.byte(1),
+            awaiting_boot: status.flag(2),
+            released: status.flag(3),
         };
     }
     statuses
 }
 
-// What a case's machine keeps: its cursor and window at place i, its statuses behind them.
-fn machine_at(ns: &[u64], i: usize, n: usize) -> Rot
-    requires { (i < 4000) × (n ≤ 255) }
+// What a case's machine keeps: its cursor and window, its n statuses behind them.
+fn machine_of(part: Part, n: usize) -> Rot
     ensures { Fit n result }
 {
+    let statuses = part.after(2);
     Rot {
-        statuses: statuses_at(ns, i + 2, n),
-        isolated: isolated_at(ns, i + 2, n),
-        cursor: up_to(number_at(ns, i), n),
-        pending_commit: flag_at(ns, i + 1),
+        statuses: statuses_of(statuses, n),
+        isolated: isolated_of(statuses, n),
+        cursor: up_to(part.number(0), n),
+        pending_commit: part.flag(1),
     }
 }
 
-// ---- to numbers: the rows of the comparisons are numbers of several values in a line, so that no `Display` of one type gives them.
+// ---- to numbers: the rows of the comparisons are numbers of several values in a line, so that no `Display` of one type gives
+// them. A `usize` goes in by `as`, as in Rust: std has no `From<usize>` for `u64`.
 
 // Numbers more, with a space before each that is not the first of its line.
 fn put(out: &mut String, numbers: &[u64]) -> Result<(), AllocError> {
@@ -209,22 +210,14 @@ fn put(out: &mut String, numbers: &[u64]) -> Result<(), AllocError> {
 }
 
 fn id_number(id: ComponentId) -> u64 {
-    u64::from(id.get())
+    u64::from(id)
 }
 
 // The numbers of a machine: state, its component or 256, cursor, window.
 fn machine_numbers(state: State, rot: &Rot) -> [u64; 4] {
-    let (number, id) = match state {
-        State::PowerOnReset => (0, None),
-        State::PreSupervision => (1, None),
-        State::AwaitingReady(id) => (2, id),
-        State::Ready => (3, None),
-        State::Updating => (4, None),
-        State::Recovering(id) => (5, Some(id)),
-        State::Locked => (6, None),
-    };
+    let id = walks::waits_in(state).or(recovery::recovers_in(state));
     [
-        number,
+        table::state_no(state) as u64,
         id.map_or(256, id_number),
         rot.cursor as u64,
         u64::from(rot.pending_commit),
@@ -290,9 +283,10 @@ fn put_work(out: &mut String, w: &Work, n: usize) -> Result<(), AllocError> {
     for p in 0..n {
         put(out, &status_numbers(machine::status_at(w.rot, n, p)))?;
     }
-    put(out, &[w.sink.len as u64])?;
-    for i in 0..w.sink.len {
-        put(out, &effect_numbers(w.sink.get(i)))?;
+    let effects = w.sink.effects.as_slice();
+    put(out, &[effects.len() as u64])?;
+    for &effect in effects {
+        put(out, &effect_numbers(effect))?;
     }
     Ok(())
 }
@@ -306,16 +300,9 @@ fn put_rest(out: &mut String, m: &Machine) -> Result<(), AllocError> {
     Ok(())
 }
 
-fn number_of(answer: Result<(), CallError>) -> u64 {
-    match answer {
-        Ok(()) => 0,
-        Err(error) => error.number(),
-    }
-}
-
 fn put_call(out: &mut String, called: &Called) -> Result<(), AllocError> {
     let m = &called.machine;
-    put(out, &[number_of(called.answer)])?;
+    put(out, &[called.number()])?;
     put(out, &waiting_numbers(called.effect))?;
     put(out, &machine_numbers(sm::state(*m), &m.work.rot))?;
     put(out, &[sm::isolated_count(*m) as u64])?;
@@ -328,29 +315,26 @@ fn put_call(out: &mut String, called: &Called) -> Result<(), AllocError> {
 // ---- answers
 
 // One case: the machine that it sets up takes one step.
-fn answer_case(out: &mut String, ns: &[u64]) -> Result<(), AllocError> {
-    let list = list_of(ns, 1);
+fn answer_case(out: &mut String, part: Part) -> Result<(), AllocError> {
+    let list = list_of(part.after(1));
     let verdict = list.verdict();
     let Ok(()) = verdict else {
         return put_answer(out, Answer::from(verdict));
     };
     let chain = Chain::of(list);
     let n = chain.count();
-    let at = 2 + 5 * n;
-    let kept = machine_at(ns, at + 2, n);
-    let event = event_at(ns, at + 4 + 4 * n);
-    let w = rot::step(
-        chain,
-        byte_at(ns, 0),
-        state_at(ns, at),
-        kept,
-        Sink::new(),
-        event,
-    );
+    let machine = part.after(2 + 5 * n);
+    let event = machine.after(4 + 4 * n);
+    let before = Work {
+        state: state_of(machine),
+        rot: machine_of(machine.after(2), n),
+        sink: Sink::new(),
+    };
+    let w = rot::step(chain, part.byte(0), before, event_of(event));
     put_work(out, &w, n)
 }
 
-// A call that was not refused.
+// A call that was not refused. By hand: `sm` makes a `Called` of its own calls alone, and this is none of them.
 fn called(machine: Machine) -> Called {
     Called {
         machine,
@@ -360,35 +344,31 @@ fn called(machine: Machine) -> Called {
 }
 
 // The machine at hand in another situation: a comparison starts here where no history leads.
-fn set_up(ns: &[u64], m: Machine) -> Machine {
+fn set_up(part: Part, m: Machine) -> Machine {
     let n = m.chain.count();
-    let rot = machine_at(ns, 3, n);
+    let rot = machine_of(part.after(2), n);
     Machine {
         chain: m.chain,
         max_retry: m.max_retry,
         work: Work {
-            state: state_at(ns, 1),
+            state: state_of(part),
             rot,
             sink: Sink::new(),
         },
-        dispatch: Dispatch {
-            next: 0,
-            waiting: None,
-            pending: Pending::new(),
-            failed: false,
-        },
+        dispatch: Dispatch::new(),
     }
 }
 
 // The queue after a failure: the events of the line, at most 8, stand in the place of its front, and behind them those that
 // stood behind it, as many as there is room for. A later failure of a dispatch queues nothing, so that nothing is planted there.
-fn planted(ns: &[u64], failed_before: bool, latched: Pending) -> Pending {
+// No `chunks`, as in `list_of`: an event whose numbers are missing counts too, its numbers as 0.
+fn planted(part: Part, failed_before: bool, latched: Pending) -> Pending {
     if failed_before {
         return latched;
     }
     let mut queue = Pending::new();
-    for i in 0..up_to(number_at(ns, 1), 8) {
-        queue = queue.push_back(event_at(ns, 2 + 4 * i));
+    for k in 0..up_to(part.number(0), 8) {
+        queue = queue.push_back(event_of(part.after(1 + 4 * k)));
     }
     behind(queue, latched)
 }
@@ -404,67 +384,60 @@ fn behind(first: Pending, second: Pending) -> Pending {
 
 // The waiting effect failed. EffectFailed gives way to the events of the line, so that the machine need not lock: a
 // comparison sees here what is queued, lost and handed out after a failure.
-fn fail_planted(ns: &[u64], m: Machine) -> Machine {
+fn fail_planted(part: Part, m: Machine) -> Machine {
     let mut v = m;
-    v.dispatch = settling::replied(m.dispatch, m.work.sink.len, Reply::Failed);
-    v.dispatch.pending = planted(ns, m.dispatch.failed, v.dispatch.pending);
+    v.dispatch = settling::replied(m.dispatch, m.work.sink.effects.len, Reply::Failed);
+    v.dispatch.pending = planted(part, m.dispatch.failed, v.dispatch.pending);
     settling::settle(v)
 }
 
 // A failed reply whose failure is planted. Where no effect waits it is refused as any reply is.
-fn reply_planted(ns: &[u64], m: Machine) -> Called {
+fn reply_planted(part: Part, m: Machine) -> Called {
     if sm::waiting(m).is_none() {
         return sm::reply(m, Reply::Failed);
     }
-    called(fail_planted(ns, m))
+    called(fail_planted(part, m))
 }
 
-// A call on the machine m.
-fn call(ns: &[u64], m: Machine) -> Called {
-    match number_at(ns, 0) {
-        257 => sm::begin(m, event_at(ns, 1)),
+// A call on the machine m: what it is called with stands behind its number.
+fn call(part: Part, m: Machine) -> Called {
+    let args = part.after(1);
+    match part.number(0) {
+        257 => sm::begin(m, event_of(args)),
         258 => sm::reply(m, Reply::Done),
-        259 => sm::reply(m, Reply::Then(event_at(ns, 1))),
+        259 => sm::reply(m, Reply::Then(event_of(args))),
         260 => sm::reply(m, Reply::Failed),
-        261 => called(set_up(ns, m)),
-        _ => reply_planted(ns, m),
+        261 => called(set_up(args, m)),
+        _ => reply_planted(args, m),
     }
 }
 
 // The machine of a list. A refused list leaves none at hand.
-fn answer_new(out: &mut String, ns: &[u64]) -> Result<Option<Machine>, AllocError> {
-    let made = sm::new(list_of(ns, 2), byte_at(ns, 1));
-    match made {
-        Ok(machine) => {
-            put_answer(out, Answer::from(Ok(())))?;
-            Ok(Some(machine))
-        }
-        Err(error) => {
-            put_answer(out, Answer::from(Err(error)))?;
-            Ok(None)
-        }
-    }
+fn answer_new(out: &mut String, part: Part) -> Result<Option<Machine>, AllocError> {
+    let made = sm::new(list_of(part.after(1)), part.byte(0));
+    put_answer(out, Answer::from(made.map(|_| ())))?;
+    Ok(made.ok())
 }
 
 // The line of these numbers is answered; the machine at hand, if there is one, is kept.
 fn answer(
     out: &mut String,
-    ns: &[u64],
+    part: Part,
     kept: Option<Machine>,
 ) -> Result<Option<Machine>, AllocError> {
-    let kind = number_at(ns, 0);
+    let kind = part.number(0);
     if kind < 256 {
-        answer_case(out, ns)?;
+        answer_case(out, part)?;
         return Ok(kept);
     }
     if kind == 256 {
-        return answer_new(out, ns);
+        return answer_new(out, part.after(1));
     }
     let Some(m) = kept else {
         put(out, &[99])?;
         return Ok(None);
     };
-    let called = call(ns, m);
+    let called = call(part, m);
     put_call(out, &called)?;
     Ok(Some(called.machine))
 }
@@ -480,8 +453,8 @@ struct Line {
 
 // One byte more. Any that is no digit ends a number.
 fn read_byte(line: &mut Line, b: u8) -> Result<(), AllocError> {
-    if b.is_ascii_digit() {
-        line.number = cases::with_digit(line.number, u64::from(b % 48));
+    if let Some(digit) = char::from(b).to_digit(10) {
+        line.number = cases::with_digit(line.number, u64::from(digit));
     } else {
         line.numbers.push(line.number)?;
         line.number = 0;
@@ -501,7 +474,10 @@ fn feed(
     for &b in chunk {
         read_byte(line, b)?;
         if b == b'\n' {
-            kept = answer(out, &line.numbers, kept)?;
+            let part = Part {
+                numbers: &line.numbers,
+            };
+            kept = answer(out, part, kept)?;
             end_answer(to, out)?;
             line.numbers.clear();
         }
@@ -520,6 +496,8 @@ fn main(rt: HostRuntime) -> io::Result<()> {
     };
     let mut kept = None;
     let mut chunk = [0u8; 65536];
+    // A loop that waits on input is a count here, since each loop has to end. `lines` of std would refuse bytes that are no
+    // text, and `split` would allocate each line; both would answer a line that is not ended.
     for _ in 0..u64::MAX {
         let n = input.read(&mut chunk)?;
         if n == 0 {

@@ -1,3 +1,4 @@
 -- The definitions that the contracts cite.
 pub mod Sink
+pub mod Stored
 pub mod Retry

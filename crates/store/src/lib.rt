@@ -4,15 +4,16 @@
 
 ghost use Rattle.std.specs.Prelude.{◌≡◌, map};
 ghost use Rattle.store.specs.Sink.{empty_sink, with_effect, effect_at};
+ghost use Rattle.store.specs.Stored.{unset, off};
 ghost use Rattle.store.specs.Retry.{no_retry};
 
+use bounded::Bounded;
 use model::Effect;
 
-// The effects of one event: the first `len` of the array. What stands behind them means nothing.
+// The effects of one event, in order.
 #[derive(Clone, Copy)]
 pub struct Sink {
-    pub effects: [Effect; 512],
-    pub len: usize,
+    pub effects: Bounded<Effect, 512>,
 }
 
 impl Sink {
@@ -21,8 +22,7 @@ impl Sink {
         ensures { result ≡ empty_sink }
     {
         Sink {
-            effects: [Effect::LatchLockdown; 512],
-            len: 0,
+            effects: Bounded::new(Effect::LatchLockdown),
         }
     }
 
@@ -31,21 +31,15 @@ impl Sink {
     pub fn emit(&mut self, effect: Effect)
         ensures { self.new ≡ with_effect self.old effect }
     {
-        if self.len < self.effects.len() {
-            self.effects[self.len] = effect;
-            self.len += 1;
-        }
+        self.effects.push(effect);
     }
 
-    // The effect at place i. Past the last place the answer is LatchLockdown, which lets nothing run.
+    // The effect at place i, of a sink by value as it was promised. Past the last place the answer is LatchLockdown, which lets
+    // nothing run: no Option, since this call was promised never to fail. `effects` has the list for whoever wants one.
     pub fn get(self, i: usize) -> Effect
         ensures { result ≡ effect_at self i }
     {
-        if i < self.effects.len() {
-            self.effects[i]
-        } else {
-            Effect::LatchLockdown
-        }
+        *self.effects.items.get(i).unwrap_or(&Effect::LatchLockdown)
     }
 }
 
@@ -55,6 +49,30 @@ pub struct Status {
     pub retry: u8,
     pub awaiting_boot: bool,
     pub released: bool,
+}
+
+impl Status {
+    // What is stored of a new component. By name, as in the source; a derived `Default` would be the same under a second one.
+    pub fn new() -> Self
+        ensures { result ≡ unset }
+    {
+        Status {
+            retry: 0,
+            awaiting_boot: false,
+            released: false,
+        }
+    }
+
+    // Both flags off; the retry count is kept.
+    pub fn off(self) -> Self
+        ensures { result ≡ off self }
+    {
+        Status {
+            awaiting_boot: false,
+            released: false,
+            ..self
+        }
+    }
 }
 
 // Entering Ready sets every retry to zero and touches no other field.

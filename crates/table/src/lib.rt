@@ -8,7 +8,8 @@ ghost use Rattle.table.specs.Payload.{power_of, boot_of};
 use model::{BootFailureKind, Event, PowerOnResult, State};
 
 // The rule of each pair: a row for each state and a column for each event, in the order in which the source declares
-// them. Document 01 asks for one constant table of rule numbers; specs/Table.antt says which rule each number is.
+// them. Document 01 asks for one constant table of rule numbers, so that state, event and rule are numbers in the three functions
+// below, and no rule is 0; specs/Table.antt says which rule each number is.
 const RULES: [[u8; 18]; 7] = [
     [1, 0, 0, 0, 0, 0, 0, 0, 0, 0, 0, 0, 0, 0, 0, 0, 0, 17],
     [0, 2, 3, 0, 5, 0, 0, 0, 0, 0, 12, 0, 0, 0, 18, 20, 0, 17],
@@ -74,7 +75,8 @@ pub fn rule_number(state: State, event: Event) -> u8
     RULES[state_no(state)][event_no(event)]
 }
 
-// What PowerGood found; Unprovisioned of any other event.
+// What PowerGood found; Unprovisioned of any other event. No Option, here and in the next: `numbered::apply` is promised for each
+// number with each event, so that it would have to make up the value.
 pub fn power_on_result(event: Event) -> PowerOnResult
     ensures { result ≡ power_of event }
 {

@@ -1,4 +1,7 @@
-// Lines of bytes: one is built in a small array, and copied whole into a lent buffer.
+// Lines of bytes: one is built in a small array, and copied whole into a lent buffer. Printing is by hand here and in the
+// crates that print lines: a line lies in fixed memory, a full one keeps the bytes that fit, and what each function makes
+// of it is promised with no answer to look at. `write!`, a `Display` and an `ArrayString` promise their text only where
+// they answer Ok.
 #![tactic(auto)]
 
 ghost use Rattle.std.specs.Prelude.{◌≡◌, List, [], ◌∷◌, ◌++◌, length};
@@ -17,10 +20,7 @@ pub fn empty() -> Line
     ensures { text_of result ≡ [] }
 {
     Line {
-        bytes: Bounded {
-            items: [0; 64],
-            len: 0,
-        },
+        bytes: Bounded::new(0),
     }
 }
 
@@ -57,8 +57,8 @@ pub fn push_bytes(mut l: Line, s: &[u8]) -> Line
     l
 }
 
-// n in decimal, with no leading zero. By hand: a line is built in fixed memory and its whole text is promised, while `write!` to
-// a line promises its text only where it answers Ok, and nothing promises that it does.
+// n in decimal, with no leading zero. By hand: `itoa` promises the same digits in a buffer of its own, out of which they would be
+// copied, and is no plainer than these two lines. The cast is of one digit, which fits a byte.
 pub fn push_decimal(l: Line, n: u64) -> Line
     ensures { Pushed l (decimal n) result }
 {

@@ -8,8 +8,9 @@ use components::{Answer, ComponentList};
 use std::io;
 use std::io::{Read, Stdout};
 
-// The line so far: its entries, the numbers of the entry at hand behind the length, and the number at hand. Six numbers, and
-// never more: an array.
+// The line so far: its entries, the numbers of the entry at hand behind the length, and the number at hand. The numbers are
+// in an array: they are six and never more, and what is counted is the place of the next, which begins at 1 again with each
+// entry. A list with a length of its own would have a second count.
 #[derive(Clone, Copy)]
 struct Line {
     list: ComponentList,
@@ -28,7 +29,7 @@ fn new_line() -> Line {
 }
 
 fn write_answer(out: Stdout, mut list: ComponentList, len: u64) -> io::Result<()> {
-    list.len = len as usize;
+    list.len = len as usize; // as wide as the number
     let a = Answer::from(list.verdict());
     println!(out; "{} {} {}", a.number, a.place, a.other)
 }
@@ -52,8 +53,8 @@ fn end_number(line: &mut Line) {
 // The bytes of a chunk, one after the other.
 fn feed(out: Stdout, line: &mut Line, chunk: &[u8]) -> io::Result<()> {
     for &b in chunk {
-        if b.is_ascii_digit() {
-            line.number = cases::with_digit(line.number, u64::from(b % 48));
+        if let Some(digit) = char::from(b).to_digit(10) {
+            line.number = cases::with_digit(line.number, u64::from(digit));
         } else {
             end_number(line);
         }
@@ -71,6 +72,8 @@ fn main(rt: HostRuntime) -> io::Result<()> {
     let mut input = rt.stdin();
     let mut line = new_line();
     let mut chunk = [0u8; 65536];
+    // A loop that waits on input is a count here, since each loop has to end. `lines` of std would refuse bytes that are no
+    // text, and `split` would allocate each line; both would answer a line that is not ended.
     for _ in 0..u64::MAX {
         let n = input.read(&mut chunk)?;
         if n == 0 {

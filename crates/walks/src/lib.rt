@@ -23,7 +23,7 @@ fn released_in(state: State, kind: ComponentKind, id: ComponentId) -> State
 }
 
 // Only the component under the cursor is released: a verdict on any other is stale or out of turn.
-pub fn verification_passed(member: Member, w: Work) -> Work
+pub fn verification_passed(member: Member, mut w: Work) -> Work
     ensures { Does (size member.chain) w (pass (entries member.chain) member.id) result }
 {
     if member.place != w.rot.cursor {
@@ -35,8 +35,8 @@ pub fn verification_passed(member: Member, w: Work) -> Work
         awaiting_boot: true,
         released: true,
     };
-    let v = machine::say(w, Effect::ReleaseReset(member.id));
-    let u = machine::put_status(v, member.chain.count(), member.place, on);
+    w.sink.emit(Effect::ReleaseReset(member.id));
+    let u = machine::put_status(w, member.place, on);
     entry::walk_on(member.chain, u, member.place + 1, next)
 }
 
@@ -53,14 +53,12 @@ pub fn verification_failed(member: Member, w: Work) -> Work
 pub fn clear_awaiting_boot(member: Member, w: Work) -> Work
     ensures { Does (size member.chain) w (progress (entries member.chain) member.id) result }
 {
-    let n = member.chain.count();
-    let s = machine::status_at(w.rot, n, member.place);
+    let s = machine::status_at(w.rot, member.chain.count(), member.place);
     let up = Status {
-        retry: s.retry,
         awaiting_boot: false,
-        released: s.released,
+        ..Status::from(s)
     };
-    machine::put_status(w, n, member.place, up)
+    machine::put_status(w, member.place, up)
 }
 
 // The component that AwaitingReady waits for. `recovery::recovers_in` reads another state: one function for both would have to be
@@ -78,12 +76,13 @@ pub fn waits_in(state: State) -> Option<ComponentId>
 pub fn component_ready(member: Member, w: Work, waits_for: Option<ComponentId>) -> Work
     ensures { Does (size member.chain) w (component_ready (entries member.chain) member.id waits_for) result }
 {
-    let v = clear_awaiting_boot(member, w);
+    let mut v = clear_awaiting_boot(member, w);
     if waits_for != Some(member.id) {
         return v;
     }
     if v.rot.cursor < member.chain.count() {
-        return machine::in_state(v, State::AwaitingReady(None));
+        v.state = State::AwaitingReady(None);
+        return v;
     }
     entry::enter_ready(v)
 }

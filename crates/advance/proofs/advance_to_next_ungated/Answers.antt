@@ -7,7 +7,7 @@ use Rattle.isolated.specs.Flags.{flags, next_free}
 use Rattle.isolated.proofs.Laws.{length-flags, next-from, next-range}
 use Rattle.advance.specs.Advance.{seek}
 use Rattle.machine.specs.declared.Work.{Work}
-use Rattle.machine.specs.View.{out, stay, core_of, cursor_at, statuses_of, Ran, Fit}
+use Rattle.machine.specs.View.{out, stay, core_of, cursor_at, statuses_of, Ran}
 use Rattle.advance.proofs.Laws.{ahead-view}
 use Rattle.machine.proofs.Owned.{Owned, statuses-full, words-four}
 use Rattle.machine.proofs.Runs.{rot_is, ran-rot, ran-as, ran-emit}

@@ -8,7 +8,7 @@ use Rattle.cascade.proofs.put_dependents.Goals.{then-parents-p, else-parents-p}
 pub loop-p-init : goal.loop-p-init
 loop-p-init c =
     let before = listed c.args.order.now in
-    record { list = sym (ap (λ (l : List ℕ). before ++ l) c.requires.2 ∙ append-nil before); count = c.requires.3 }
+    rw c.from-p.ensures record { list = sym (ap (λ (l : List ℕ). before ++ l) c.requires.2 ∙ append-nil before); count = c.requires.3 }
 
 pub loop-p-preserved : goal.loop-p-preserved
 loop-p-preserved c =

@@ -7,5 +7,5 @@ returns-then-sheet-c c = λ limit n g. plan-is (answers-end c.requires c.if-shee
 
 pub returns : goal.returns
 returns c = λ limit n g.
-    let next = c.next_line-next in
+    let next = c.next_line in
     plan-is (answers_next c.requires next.result next.ensures) c.answer_row.ensures

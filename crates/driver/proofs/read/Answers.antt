@@ -7,5 +7,5 @@ returns-then-sheet-c c = λ limit. plan-is (reads_end c.requires c.if-sheet-c.tr
 
 pub returns : goal.returns
 returns c = λ limit.
-    let next = c.next_line-next in
+    let next = c.next_line in
     plan-is (reads-next c.requires next.result next.ensures) c.read_row.ensures

@@ -8,7 +8,7 @@ use Rattle.model.specs.declared.BootFailureKind.TheVariants.{TimedOut, DeviceRet
 use Rattle.model.specs.declared.Effect.TheVariants.{ReportBootFailed}
 use Rattle.machine.specs.Status.{status_at}
 use Rattle.machine.specs.View.{Out, statuses_of}
-use Rattle.machine.proofs.Runs.{ran-none, ran-say, ran_then}
+use Rattle.machine.proofs.Runs.{ran-none, ran-emit, ran_then}
 use Rattle.corruption.specs.Cases.{follows, before}
 use Rattle.corruption.specs.Corruption.{recover, corrupt}
 use Rattle.failures.specs.Failures.{by_kind}
@@ -28,7 +28,7 @@ returns-then-eq c =
     let ch = entries a.member.chain in
     let waits : (status_at (statuses_of (size a.member.chain) a.w.rot) (position ch a.member.id)).awaiting_boot ≡ true = search rules in
     let fatal : a.failure.kind ≡ DeviceFatal = search rules in
-    let said = ran-say (ReportBootFailed a.member.id a.failure.checkpoint a.failure.kind) ran-none c.say-v.ensures in
+    let said = ran-emit (ReportBootFailed a.member.id a.failure.checkpoint a.failure.kind) ran-none c.emit.ensures in
     let done = ran_then (corrupt ch (follows a.situation ch) (before a.situation) a.member.id) said c.handle_corruption.ensures in
     rw (waits, fatal) (rw fatal at done)
 
@@ -38,5 +38,5 @@ returns c =
     let ch = entries a.member.chain in
     let waits : (status_at (statuses_of (size a.member.chain) a.w.rot) (position ch a.member.id)).awaiting_boot ≡ true = search rules in
     let other : a.failure.kind ≡ DeviceFatal → ⊥ = search rules in
-    let said = ran-say (ReportBootFailed a.member.id a.failure.checkpoint a.failure.kind) ran-none c.say-v.ensures in
+    let said = ran-emit (ReportBootFailed a.member.id a.failure.checkpoint a.failure.kind) ran-none c.emit.ensures in
     rw (waits, not-fatal a.failure.kind _ _ other) (ran_then (recover ch (before a.situation) a.member.id) said c.start_recovery.ensures)

@@ -14,7 +14,7 @@ loop-p-preserved c =
     let ps = listed c.args.order in
     let i = c.loop-p.p-index in
     let e = c.as_slice-p-items.ensures in
-    leads-next (gating ch (get_or ps i 0)) (gating_all ch (drop (i + 1) ps)) (rw e at c.gate_one-w.ensures)
+    leads-next (gating ch (get_or ps i 0)) (gating_all ch (drop (i + 1) ps)) (rw e at c.gate_at.ensures)
     (gate-next ch (core_of (size c.args.chain) c.loop-p.w) ps i (rw e at c.loop-p-test.true)) c.loop-p.invariant
 
 pub returns : goal.returns

@@ -7,4 +7,4 @@ use Rattle.machine.proofs.put_status.Goals as goal
 pub returns : goal.returns
 returns c =
     let a = c.args in
-    ran-change a.n a.w a.p c.well_formed.0 c.requires.0 c.requires.1 (stored a.s) (λ _. a.s) (λ b s. refl)
+    λ n few inside. ran-change n a.w a.p c.well_formed.0 few inside (stored a.s) (λ _. a.s) (λ b s. refl) refl

@@ -5,7 +5,7 @@ use Rattle.printout.proofs.replay.Goals as goal
 use Rattle.printout.proofs.replay.Goals.{Joined-input-le65536, then-input-le65536, else-input-le65536}
 
 -- What is answered to the input, whichever it was.
-answered : (c : Joined-input-le65536) → Awaits c.args.input.now (record { bytes = c.if-input-le65536.bytes; len = c.if-input-le65536.answer.written }) c.if-input-le65536.answer
+answered : (c : Joined-input-le65536) → Awaits c.args.input.now (record { bytes = record { items = c.if-input-le65536.bytes; len = c.if-input-le65536.answer.written } }) c.if-input-le65536.answer
 answered c =
     let s = c.args.input.now in
     elim c.if-input-le65536.branch [

@@ -5,8 +5,9 @@ use Prim.Native.Nat.{ℕ, ◌+◌, ◌-◌, ◌<◌, ◌≤◌}
 use native.Mathlib.Omega.{arith}
 use lib.ListN.{length, take, drop, length-drop}
 use lib.Seq.{length-take-le}
+use Rattle.std.proofs.lemmas.List.{take_rest}
 use Rattle.fields.specs.Fields.{place_of}
-use Rattle.fields.proofs.Scan.{place-bound, to_the_end}
+use Rattle.fields.proofs.Scan.{place-bound}
 use Rattle.reader.proofs.Rows.{reads-line, reads-open}
 use Rattle.reader.proofs.next_line.Goals as goal
 
@@ -14,14 +15,14 @@ pub returns-then-n-m : goal.returns-then-n-m
 returns-then-n-m c =
     let s = c.args.sheet.now in
     let at = c.args.at in
-    reads-open s at (omega arith) _ (to_the_end s at) _ c.place-n.ensures c.if-n-m.true
+    reads-open s at (omega arith) _ (take_rest s at) _ c.place-n.ensures c.if-n-m.true
 
 pub slice_bounds-read_line-end : goal.slice_bounds-read_line-end
 slice_bounds-read_line-end c = sym (length-take-le _ _ (place-bound _ _ _ c.place-n.ensures))
 
 -- A line ends in the sheet.
 ends : (s : List ℕ) (at n : ℕ) → n ≡ place_of 10 (take (length s - at) (drop at s)) → at < length s → at + n ≤ length s
-ends s at n e h = omega (arith, place-bound _ _ _ e, ap length (to_the_end s at), length-drop at s)
+ends s at n e h = omega (arith, place-bound _ _ _ e, ap length (take_rest s at), length-drop at s)
 
 pub overflow_add-result : goal.overflow_add-result
 overflow_add-result c = omega (arith, ends _ _ _ c.place-n.ensures c.requires)
@@ -33,4 +34,4 @@ pub returns : goal.returns
 returns c =
     let s = c.args.sheet.now in
     let at = c.args.at in
-    reads-line s at (omega arith) _ (to_the_end s at) _ c.place-n.ensures c.if-n-m.false _ c.read_line.ensures
+    reads-line s at (omega arith) _ (take_rest s at) _ c.place-n.ensures c.if-n-m.false _ c.read_line.ensures

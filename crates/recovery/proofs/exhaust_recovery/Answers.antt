@@ -5,7 +5,7 @@ use Rattle.chain.specs.Tables.{entries}
 use Rattle.components.specs.Chain.{position}
 use Rattle.model.specs.declared.Event.TheVariants.{RecoveryFailed}
 use Rattle.model.specs.declared.Effect.TheVariants.{ReportRecoveryFailed, Emit}
-use Rattle.machine.proofs.Runs.{ran-none, ran-say}
+use Rattle.machine.proofs.Runs.{ran-none, ran-emit}
 use Rattle.recovery.specs.Recovery.{start_over, give_up}
 use Rattle.corruption.specs.Corruption.{gates_failed}
 use Rattle.corruption.proofs.Outcomes.{gated-then, ungated-then}
@@ -23,5 +23,5 @@ returns c =
     let a = c.args in
     let ch = entries a.member.chain in
     let spares : gates_failed (policy_at ch a.member.place) ≡ false = search rules in
-    let reported = ran-say (ReportRecoveryFailed a.member.id) ran-none c.say-u.ensures in
-    ungated-then ch a.member.place (position ch a.member.id) (give_up a.member.id) (start_over ch a.member.id) a.member.here spares (ran-say (Emit RecoveryFailed) reported c.say.ensures)
+    let reported = ran-emit (ReportRecoveryFailed a.member.id) ran-none c.emit.ensures in
+    ungated-then ch a.member.place (position ch a.member.id) (give_up a.member.id) (start_over ch a.member.id) a.member.here spares (ran-emit (Emit RecoveryFailed) reported c.emit-2.ensures)

@@ -12,7 +12,7 @@ use Rattle.components.proofs.Accepted.{accepted-sound}
 use Rattle.components.proofs.Lookup.{own-place}
 use Rattle.chain.specs.declared.Chain.{Chain}
 use Rattle.chain.specs.Tables.{entries, size, Accepted}
-use Rattle.chain.proofs.Room.{all-kept, few}
+use Rattle.chain.proofs.Room.{all-kept}
 use Rattle.store.specs.declared.Sink.{Sink}
 use Rattle.store.specs.Sink.{held}
 use Rattle.store.proofs.Laws.{none-held}
@@ -44,16 +44,16 @@ inside c s e i full sound busy q =
 
 -- What is run on a sink of length 0 holds all that the definition says.
 stepped : (c : Chain) (max : ℕ) (s : State) (rot : Rot) (e : Event) → length c.list.entries ≡ 255 → Sound c.list.len (entries c)
-    → length rot.statuses ≡ 255 → length rot.isolated.words ≡ 4 → (k : Sink) → k.len ≡ 0 → length k.effects ≡ 512 → (r : Work)
+    → length rot.statuses ≡ 255 → length rot.isolated.words ≡ 4 → (k : Sink) → k.effects.len ≡ 0 → length k.effects.items ≡ 512 → (r : Work)
     → Ran (size c) (record { state = s; rot = rot; sink = k }) (outcome c max (bare s rot) e) r → Stepped c max (bare s rot) e r
 stepped c max s rot e full sound statuses words k z slots r d =
     let ch = entries c in
-    let n : length ch ≤ 255 = few c.list full in
+    let n = c.few in
     let now = bare s rot in
     let said = (outcome c max now e).said in
     let most = step-bound ch max (core_of (size c) now) e (some c full sound) (length-statuses (size c) rot n statuses words) in
     let all = says-held k said slots (omega arith) in
-    let count = ap (λ (x : Sink). x.len) d.sink ∙ all.1 in
+    let count = ap (λ (x : Sink). x.effects.len) d.sink ∙ all.1 in
     record {
       core = d.core;
       effects = ap held d.sink ∙ all.0 ∙ ap (λ (es : List Effect). es ++ said) (none-held k z);
@@ -70,14 +70,14 @@ pub returns-then-idles : goal.returns-then-idles
 returns-then-idles c =
     let a = c.args in
     let answered = c.idles.ensures.1 a.chain refl c.count.ensures.0 in
-    idle-stepped a.chain a.max_retry a.state a.rot a.event (sym answered ∙ c.if-idles.true) _ refl
+    idle-stepped a.chain a.max_retry a.w.state a.w.rot a.event (sym answered ∙ c.if-idles.true) _ refl
 
 pub invariant_of-member : goal.invariant_of-member
 invariant_of-member c =
     let a = c.args in
     let full : length a.chain.list.entries ≡ 255 = search (rules, unmap) in
     let answered = c.idles.ensures.1 a.chain refl c.count.ensures.0 in
-    let within = inside a.chain a.state a.event c.about-id.result full (sound_of a.chain c.requires) (sym answered ∙ c.if-idles.false) c.about-id.ensures in
+    let within = inside a.chain a.w.state a.event c.about-id.result full (sound_of a.chain c.requires) (sym answered ∙ c.if-idles.false) c.about-id.ensures in
     record { accepted = c.requires; here = c.position.ensures; inside = omega (arith, within, c.position.ensures) }
 
 pub returns : goal.returns
@@ -86,12 +86,12 @@ returns c =
     let ch = entries a.chain in
     let sound = sound_of a.chain c.requires in
     let full : length a.chain.list.entries ≡ 255 = search (rules, unmap) in
-    let statuses : length a.rot.statuses ≡ 255 = search (rules, unmap) in
-    let words : length a.rot.isolated.words ≡ 4 = search rules in
-    let slots : length a.sink.effects ≡ 512 = search (rules, unmap) in
+    let statuses : length a.w.rot.statuses ≡ 255 = search (rules, unmap) in
+    let words : length a.w.rot.isolated.words ≡ 4 = search rules in
+    let slots : length a.w.sink.effects.items ≡ 512 = search (rules, unmap) in
     let answered = c.idles.ensures.1 a.chain refl c.count.ensures.0 in
-    let within = inside a.chain a.state a.event c.about-id.result full sound (sym answered ∙ c.if-idles.false) c.about-id.ensures in
-    stepped a.chain a.max_retry a.state a.rot a.event full sound statuses words _ refl slots _
+    let within = inside a.chain a.w.state a.event c.about-id.result full sound (sym answered ∙ c.if-idles.false) c.about-id.ensures in
+    stepped a.chain a.max_retry a.w.state a.w.rot a.event full sound statuses words _ refl slots _
     (ran-as
-    (step-inside ch a.max_retry (core_of (size a.chain) (bare a.state a.rot)) a.event (id_at ch 0) c.about-id.result c.rule_number.result c.about-id.ensures c.rule_number.ensures.0 within)
+    (step-inside ch a.max_retry (core_of (size a.chain) (bare a.w.state a.w.rot)) a.event (id_at ch 0) c.about-id.result c.rule_number.result c.about-id.ensures c.rule_number.ensures.0 within)
     c.apply.ensures)

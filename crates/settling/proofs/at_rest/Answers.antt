@@ -21,5 +21,5 @@ returns-then-count-eq0 c =
           let empty : length (events m.dispatch.pending) ≤ 0 = omega (arith, eqb-true w.count.result 0 (sym w.value-is ∙ c.if-count-eq0.true)) in
           λ h. turn_by_lem (chain_of m) m.max_retry (view m) None [] [] none (left-none m w.if-m.true) (view-queue m ∙ no_length (events m.dispatch.pending) empty)
           ∙ ap (λ (b : Bool). failed_is b (view m)) (sym (view-failed m ∙ not-true m.dispatch.failed h))
-      | else-m w ↦ absurd (omega (arith, leb-true m.work.sink.len m.dispatch.next (sym w.value-is ∙ c.if-count-eq0.true)))
+      | else-m w ↦ absurd (omega (arith, leb-true m.work.sink.effects.len m.dispatch.next (sym w.value-is ∙ c.if-count-eq0.true)))
     ]

@@ -16,8 +16,8 @@ returns-then-is_some c =
       | then-is_some-via-then-is_some w ↦ sym (takes_none m.dispatch.waiting (view m).left (view m).queue cc)
       | then-is_some-via-else-is_some+then-m w ↦
           let none : (view m).waiting ≡ None = view-waiting m ∙ none_waits m.dispatch.waiting cc in
-          let slots : length m.work.sink.effects ≡ 512 = search rules in
-          let full : length (held m.work.sink) ≡ m.work.sink.len = held-length m.work.sink slots m.room in
+          let slots : length m.work.sink.effects.items ≡ 512 = search rules in
+          let full : length (held m.work.sink) ≡ m.work.sink.effects.len = held-length m.work.sink slots m.room in
           sym (taken-by (view m) None (next_effect m ∷ after m) (view m).queue none (left-some m full w.if-m.true) refl)
     ]
 

@@ -20,8 +20,8 @@ pub returns-then-m : goal.returns-then-m
 returns-then-m c =
     let m = c.args.m in
     let none : (view m).waiting ≡ None = view-waiting m ∙ none_waits m.dispatch.waiting cc in
-    let slots : length m.work.sink.effects ≡ 512 = search rules in
-    let full : length (held m.work.sink) ≡ m.work.sink.len = held-length m.work.sink slots m.room in
+    let slots : length m.work.sink.effects.items ≡ 512 = search rules in
+    let full : length (held m.work.sink) ≡ m.work.sink.effects.len = held-length m.work.sink slots m.room in
     becomes-as (moves-becomes m _ _ ((refl, refl), refl) c.hand_out-m.ensures)
     (ap (λ (e : Effect). hand_out e (after m) (view m) (emits e)) c.get-effect.ensures
     ∙ sym (turn_by_lem (chain_of m) m.max_retry (view m) None (next_effect m ∷ after m) (view m).queue none (left-some m full c.if-m.true) refl))
@@ -40,10 +40,10 @@ returns c =
     let m = c.args.m in
     let none : (view m).waiting ≡ None = view-waiting m ∙ none_waits m.dispatch.waiting cc in
     let empty : (view m).queue ≡ [] = view-queue m ∙ first-none (events m.dispatch.pending) cc in
-    becomes-as (moves-becomes m _ _ ((refl, refl), refl) (c.rested-m.ensures m.work.sink.len))
+    becomes-as (moves-becomes m _ _ ((refl, refl), refl) (c.rested-m.ensures m.work.sink.effects.len))
     (sym (turn_by_lem (chain_of m) m.max_retry (view m) None [] [] none (left-none m c.if-m.false) empty))
 
 pub invariant_of-m-2 : goal.invariant_of-m-2
 invariant_of-m-2 c =
     let m = c.args.m in
-    record { accepted = m.accepted; fit = m.fit; room = m.room; few = (c.rested-m.ensures m.work.sink.len).few }
+    record { accepted = m.accepted; fit = m.fit; room = m.room; few = (c.rested-m.ensures m.work.sink.effects.len).few }

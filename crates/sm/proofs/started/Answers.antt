@@ -17,7 +17,7 @@ invariant_of-result-clause-fit c = subst (λ (w : Work). Fit (size c.of.result) 
 
 pub invariant_of-result-clause-few : goal.invariant_of-result-clause-few
 unfolding events
-invariant_of-result-clause-few c = subst (λ (d : Dispatch). length (events d.pending) ≤ 8) (sym c.idle.ensures) (omega arith)
+invariant_of-result-clause-few c = subst (λ (d : Dispatch). length (events d.pending) ≤ 8) (sym c.new.ensures) (omega arith)
 
 pub returns : goal.returns
-returns c = start-fresh c.args.list c.args.max_retry _ record { list = c.of.ensures; max_retry = refl; work = c.at_work.ensures; dispatch = c.idle.ensures }
+returns c = start-fresh c.args.list c.args.max_retry _ record { list = c.of.ensures; max_retry = refl; work = c.at_work.ensures; dispatch = c.new.ensures }

@@ -1,19 +1,19 @@
 -- `set_up` makes a machine: the chain is that of another one, what is kept fits it, and nothing is in the sink or queued.
 use Rattle.std.proofs.Common.{arith, ap, sym, length}
 use Rattle.store.specs.declared.Sink.{Sink}
-use Rattle.pending.specs.declared.Pending.{Pending}
 use Rattle.pending.specs.Queue.{events}
+use Rattle.settling.specs.declared.Dispatch.{Dispatch}
 use Rattle.entry.proofs.Compose.{fit_at}
 use Rattle.steps.proofs.set_up.Goals as goal
 
 pub invariant_of-result : goal.invariant_of-result
 unfolding events
 invariant_of-result c =
-    let none = ap (λ (s : Sink). s.len) c.new.ensures in
-    let empty = ap (λ (q : Pending). length (events q)) c.new-2.ensures in
+    let none = ap (λ (s : Sink). s.effects.len) c.new.ensures in
+    let empty = ap (λ (d : Dispatch). length (events d.pending)) c.new-2.ensures in
     record {
       accepted = c.args.m.accepted;
-      fit = fit_at (sym c.count-n.ensures.0) c.machine_at-rot.ensures;
+      fit = fit_at (sym c.count-n.ensures.0) c.machine_of-rot.ensures;
       room = omega (arith, none);
       few = omega (arith, empty);
     }

@@ -1,12 +1,11 @@
 -- `verification_passed` meets its contract: the effect, the status, and then the walk goes on.
 use Rattle.std.proofs.Common.{true, ◌+◌, rules, tests, eq-eqb, add-one}
-use Rattle.chain.specs.Tables.{entries}
+use Rattle.chain.specs.Tables.{entries, size}
 use Rattle.model.specs.declared.Effect.TheVariants.{ReleaseReset}
 use Rattle.store.specs.declared.Status.{Status}
 use Rattle.machine.specs.Acts.{putting}
-use Rattle.machine.proofs.Runs.{ran-none, ran-say, ran_then}
+use Rattle.machine.proofs.Runs.{ran-none, ran-emit, ran_then}
 use Rattle.entry.specs.Entry.{onward}
-use Rattle.entry.proofs.Compose.{does_at}
 use Rattle.walks.proofs.verification_passed.Goals as goal
 
 pub returns-then-member-w : goal.returns-then-member-w
@@ -16,7 +15,7 @@ pub returns : goal.returns
 returns c =
     let m = c.args.member in
     let up : Status = record { retry = 0; awaiting_boot = true; released = true } in
-    let said = ran-say (ReleaseReset m.id) ran-none c.say-v.ensures in
-    let put = does_at (putting up m.place) c.count.ensures.0 c.put_status-u.ensures in
+    let said = ran-emit (ReleaseReset m.id) ran-none c.emit.ensures in
+    let put = c.put_status-u.ensures (size m.chain) m.chain.few m.inside in
     rw (← m.here, eq-eqb m.place c.args.w.rot.cursor c.if-member-w.false, ← add-one m.place, ← c.kind.ensures, ← c.released_in-next.ensures)
     (ran_then (onward (entries m.chain) (m.place + 1) c.released_in-next.result) (ran_then (putting up m.place) said put) c.walk_on.ensures)
