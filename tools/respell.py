@@ -41,7 +41,7 @@ DEFINED = re.compile(
 def texts():
     """The files of the crates in which a ghost name may stand."""
     found = []
-    for pattern in ("specs/**/*.antt", "proofs/**/*.antt", "src/**/*.rt", "must-fail/*.edit"):
+    for pattern in ("specs/**/*.antt", "proofs/**/*.antt", "src/**/*.rt", "rounds/*.edit"):
         found += glob.glob("crates/*/" + pattern, recursive=True)
     return sorted(found)
 
