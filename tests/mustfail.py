@@ -105,7 +105,8 @@ def read_log(log, functions):
         elif OPEN.match(line):
             open_goals.append(message(lines, at).split(": ", 1)[-1])
         elif m := VERDICT.match(line):
-            found = of(holder(m[1], functions))
+            place = holder(m[1], functions)
+            found = of(place)
             found.refused |= m[2] != "proved"
             if m[2] == LIMIT:
                 found.errors = [LIMIT]
@@ -113,7 +114,7 @@ def read_log(log, functions):
                 found.errors += open_goals or SEARCHED.findall(m[3])
             if calls := CALLS.search(m[3]):
                 callees = (holder(c.split("::", 1)[1], functions) for c in re.findall(r"`([^`]+)`", calls[1]))
-                found.calls += [c for c in callees if c != holder(m[1], functions)]
+                found.calls += [c for c in callees if c != place]
             open_goals = []
     return told
 
