@@ -10,8 +10,8 @@ use std::io;
 use std::io::Stdout;
 use text::Line;
 
-fn put(out: Stdout, line: Line) -> io::Result<()> {
-    out.write_all(text::bytes(&line))
+fn put(out: Stdout, line: &Line) -> io::Result<()> {
+    out.write_all(text::bytes(line))
 }
 
 // A refused call, with document 01's number.
@@ -22,7 +22,9 @@ fn put_refusal(out: Stdout, name: &str, called: Called) -> io::Result<()> {
 // The output and the machine go side by side from here on. To keep them together would take a `&mut` of a struct, and each
 // function would name its two fields for what are two arguments.
 fn put_state(out: Stdout, m: Machine) -> io::Result<()> {
-    put(out, printed::state_line(sm::state(m)))
+    let mut line = text::empty();
+    printed::state_line(&mut line, sm::state(m));
+    put(out, &line)
 }
 
 fn put_isolated(out: Stdout, m: Machine) -> io::Result<()> {
@@ -42,11 +44,13 @@ fn answer_to(effect: Effect) -> Reply {
 // that a `while let` could not be shown to end: a thousand are more than any event here hands out.
 fn finish(out: Stdout, m: Machine) -> io::Result<Machine> {
     let mut v = m;
+    let mut line = text::empty();
     for _ in 0..1000 {
         let Some(effect) = sm::waiting(v) else {
             break;
         };
-        put(out, effect_lines::effect_line(effect))?;
+        printed::effect_line(&mut line, effect);
+        put(out, &line)?;
         v = sm::reply(v, answer_to(effect)).machine;
     }
     Ok(v)

@@ -5,3 +5,6 @@ pub mod Accepted
 pub mod Asked
 pub mod Kept
 pub mod Judged
+pub mod Fill
+pub mod Places
+pub mod Room

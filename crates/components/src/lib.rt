@@ -1,8 +1,10 @@
-// The list of components, and the verdict on it: a port of what the source's model.rs does to make a chain.
+// The list of components, the verdict on it, and a chain: a port of what the source's model.rs does to make one.
 #![tactic(auto)]
 
-ghost use Rattle.std.specs.Prelude.{◌≡◌, ◌≤◌, length};
-ghost use Rattle.components.specs.Chain.{entries_of, no_entries, pushed, position, found, new_ids, links, verdict_of, answer_of};
+ghost use Rattle.std.specs.Prelude.{◌≡◌, ◌≤◌, ◌<◌, length};
+ghost use Rattle.components.specs.Chain.{entries_of, no_entries, pushed, position, found, new_ids, links, verdict_of, answer_of, id_at};
+ghost use Rattle.components.specs.Links.{parent, kind_at, policy_at};
+ghost use Rattle.components.specs.Filled.{Filled, ById};
 
 use model::{Component, ComponentAttrs, ComponentId, ComponentKind, FailurePolicy};
 
@@ -71,8 +73,7 @@ impl From<Result<(), ChainError>> for Answer {
     }
 }
 
-// The public methods take the list by value, as they were promised; `place`, `new_id` and `link` are lent it, since they are
-// asked for each entry.
+// The public methods take the list by value, as they were promised; `put` and `place` are lent it.
 impl ComponentList {
     // A list with no entry.
     pub fn new() -> Self
@@ -92,13 +93,20 @@ impl ComponentList {
     pub fn push(mut self, component: Component) -> Self
         ensures { result ≡ pushed self component }
     {
+        self.put(component);
+        self
+    }
+
+    // The same of a list that is lent: a sheet has a card for each entry, and by value each would copy the list.
+    pub fn put(&mut self, component: Component)
+        ensures { self.new ≡ pushed self.old component }
+    {
         if self.len < 255 {
             self.entries[self.len] = component;
             self.len += 1;
         } else {
             self.len = 256;
         }
-        self
     }
 
     // How many entries are kept, at most 255.
@@ -124,13 +132,117 @@ impl ComponentList {
         self.entries[..self.count()].iter().position(|c| c.id == id)
     }
 
-    // Question 4 of the entry at place `at`: is its id new? One that stands nowhere counts as past the end, as in the definition,
-    // whatever place is asked about.
-    #[tactic(auto, using(crate::proofs::Lookup::found_position))]
-    fn new_id(&self, at: usize, entry: &Component) -> Result<(), ChainError>
-        ensures { result ≡ new_ids (entries_of self.now) at entry.now }
+    // Questions 2 to 6.
+    pub fn verdict(self) -> Result<(), ChainError>
+        ensures { result ≡ verdict_of self.len (entries_of self) }
     {
-        if self.place(entry.id).unwrap_or(self.count()) < at {
+        Chain::of(&self).verdict()
+    }
+}
+
+// ---- a chain: a list with the two tables that are worked out of it once, so that nothing searches it again
+
+// The tables are always those of the list, of which at most 255 entries are kept. They are as long as a byte counts, in
+// fixed memory: no call uses the heap.
+#[derive(Clone, Copy)]
+pub struct Chain {
+    pub list: ComponentList,
+    // How many components the chain has, at most 255.
+    pub count: usize,
+    // By id: the position of the component, or the number of components.
+    pub positions: [u8; 256],
+    // By position: the position of what the component depends on, or the number of components.
+    pub parents: [u8; 255],
+    pub ghost few: { length (entries_of list) ≤ 255 },
+    pub ghost counted: { count ≡ length (entries_of list) },
+    pub ghost by_id: { ById (entries_of list) positions },
+    pub ghost by_place: { Filled (parent (entries_of list)) (length (entries_of list)) parents },
+}
+
+// From the last component to the first, so that of equal ids the first has the place. An id that no component has keeps the
+// number of components, which fits a byte: at most 255 entries are kept.
+fn positions_of(list: &ComponentList) -> [u8; 256]
+    ensures { ById (entries_of list.now) result }
+{
+    let n = list.count();
+    let mut positions = [n as u8; 256];
+    for (p, entry) in list.entries[..n].iter().enumerate().rev() {
+        positions[entry.id.index()] = p as u8;
+    }
+    positions
+}
+
+// What stands past the number of components stays 0: no one reads it. The table is written at a place, and not by `iter_mut` with
+// `zip`: std tells nothing of what is written behind an adapter of `iter_mut`.
+fn parents_of(list: &ComponentList, positions: &[u8; 256]) -> [u8; 255]
+    requires { ById (entries_of list.now) positions.now }
+    ensures { Filled (parent (entries_of list.now)) (length (entries_of list.now)) result }
+{
+    let n = list.count();
+    let mut parents = [0; 255];
+    for (p, entry) in list.entries[..n].iter().enumerate() {
+        parents[p] = entry
+            .attrs
+            .depends_on
+            .map_or(n as u8, |id| positions[id.index()]);
+    }
+    parents
+}
+
+// A place is a number here, and no Option or type of its own: for none it is the number of components, as the definitions
+// count, the tables keep it and the cursor of a walk that has ended stands. So what asks for a place of the chain has a
+// premise, here and in the crates above. The methods are lent the chain: by value each
+// would copy 2,100 bytes.
+impl Chain {
+    ghost use Rattle.components.specs.Tables.{entries};
+
+    // Both tables are worked out for any list whatever, also one that is refused. The list is lent, so that it is copied once.
+    pub fn of(list: &ComponentList) -> Self
+        ensures { result.list ≡ list.now }
+    {
+        let positions = positions_of(list);
+        let parents = parents_of(list, &positions);
+        Chain {
+            list: *list,
+            count: list.count(),
+            positions,
+            parents,
+        }
+    }
+
+    // The position of the component `id`, or the number of components where there is none.
+    pub fn position(&self, id: ComponentId) -> usize
+        ensures { result ≡ position (entries self.now) id }
+    {
+        usize::from(self.positions[id.index()])
+    }
+
+    pub fn id_at(&self, p: usize) -> ComponentId
+        requires { p < length (entries self.now) }
+        ensures { result ≡ id_at (entries self.now) p }
+    {
+        self.list.entries[p].id
+    }
+
+    pub fn kind_at(&self, p: usize) -> ComponentKind
+        requires { p < length (entries self.now) }
+        ensures { result ≡ kind_at (entries self.now) p }
+    {
+        self.list.entries[p].attrs.kind
+    }
+
+    pub fn policy_at(&self, p: usize) -> FailurePolicy
+        requires { p < length (entries self.now) }
+        ensures { result ≡ policy_at (entries self.now) p }
+    {
+        self.list.entries[p].attrs.failure_policy
+    }
+
+    // Question 4 of the entry at place `at`: is its id new? The tables tell each place, so that no question searches the list.
+    fn new_id(&self, at: usize, entry: &Component) -> Result<(), ChainError>
+        ensures { result ≡ new_ids (entries self.now) at entry.now }
+    {
+        if self.position(entry.id) < at {
             return Err(ChainError::DuplicateId(entry.id));
         }
         Ok(())
@@ -138,17 +250,18 @@ impl ComponentList {
 
     // Questions 5 and 6 of the entry at place `at`: does its dependency stand in the list, and earlier?
     fn link(&self, at: usize, entry: &Component) -> Result<(), ChainError>
-        ensures { result ≡ links (entries_of self.now) at entry.now }
+        ensures { result ≡ links (entries self.now) at entry.now }
     {
         let Some(depends_on) = entry.attrs.depends_on else {
             return Ok(());
         };
-        let Some(place) = self.place(depends_on) else {
+        let place = self.position(depends_on);
+        if self.count <= place {
             return Err(ChainError::UnknownDependency {
                 component: entry.id,
                 depends_on,
             });
-        };
+        }
         if at <= place {
             return Err(ChainError::ForwardDependency {
                 component: entry.id,
@@ -158,17 +271,17 @@ impl ComponentList {
         Ok(())
     }
 
-    // Questions 2 to 6.
-    pub fn verdict(self) -> Result<(), ChainError>
-        ensures { result ≡ verdict_of self.len (entries_of self) }
+    // Questions 2 to 6 of its list.
+    pub fn verdict(&self) -> Result<(), ChainError>
+        ensures { result ≡ verdict_of self.now.list.len (entries self.now) }
     {
-        if self.len == 0 {
+        if self.list.len == 0 {
             return Err(ChainError::Empty);
         }
-        if 255 < self.len {
+        if 255 < self.list.len {
             return Err(ChainError::TooLong);
         }
-        let entries = &self.entries[..self.len];
+        let entries = &self.list.entries[..self.list.len];
         entries
             .iter()
             .enumerate()

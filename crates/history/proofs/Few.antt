@@ -22,10 +22,10 @@ use Rattle.model.specs.declared.Event.{Event}
 use Rattle.model.specs.declared.Event.TheVariants.{PowerGood, VerificationPassed, VerificationFailed, ComponentReady, Booted, AttestationChallenge, UpdateRequest, UpdateVerified, UpdateRejected, BootConfirmed, CorruptionDetected, Restored, RecoveryUnavailable, RecoveryFailed, BootFailed, Timeout, CommitTimeout, EffectFailed}
 use Rattle.model.specs.declared.Effect.{Effect}
 use Rattle.model.proofs.Pick.{pick_p}
-use Rattle.advance.specs.Advance.{seek, quiet_says}
+use Rattle.holds.specs.Advance.{seek, quiet_says}
 use Rattle.machine.specs.View.{Core, Out, stay}
-use Rattle.entry.specs.Entry.{enter_locked, enter_walk}
-use Rattle.updates.specs.Updates.{power}
+use Rattle.rules.specs.Entry.{enter_locked, enter_walk}
+use Rattle.rules.specs.Updates.{power}
 use Rattle.rot.specs.Step.{rule, in_chain, step_of}
 use Rattle.rot.proofs.Bound.{step-bound}
 use Rattle.history.proofs.Statuses.{both}

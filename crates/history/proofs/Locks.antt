@@ -14,7 +14,7 @@ use Rattle.model.specs.declared.Event.{Event}
 use Rattle.model.specs.declared.Event.TheVariants.{PowerGood, VerificationPassed, VerificationFailed, ComponentReady, Booted, AttestationChallenge, UpdateRequest, UpdateVerified, UpdateRejected, BootConfirmed, CorruptionDetected, Restored, RecoveryUnavailable, RecoveryFailed, BootFailed, Timeout, CommitTimeout, EffectFailed}
 use Rattle.model.proofs.Pick.{pick_p}
 use Rattle.machine.specs.View.{Core, Out, stay}
-use Rattle.entry.specs.Entry.{enter_locked}
+use Rattle.rules.specs.Entry.{enter_locked}
 use Rattle.rot.specs.Step.{rule, in_chain, step_of}
 use Rattle.history.proofs.Parts.{walking, Inv, Ok, tame-refl, rest_ok, locked-ok}
 use Rattle.history.proofs.Rules.{told_state}

@@ -17,7 +17,7 @@ use Rattle.model.specs.declared.Event.{Event}
 use Rattle.model.specs.declared.Event.TheVariants.{VerificationPassed}
 use Rattle.model.specs.declared.Effect.{Effect}
 use Rattle.model.specs.declared.Effect.TheVariants.{ReleaseReset, ReportIsolated}
-use Rattle.chain.specs.Links.{policy_at}
+use Rattle.components.specs.Links.{policy_at}
 use Rattle.pending.specs.Queue.{emits}
 use Rattle.machine.specs.declared.ComponentStatus.{ComponentStatus}
 use Rattle.history.specs.History.{Item, Taken, HandedOut, settling, settled, Reported}

@@ -7,9 +7,9 @@ use Rattle.components.specs.Chain.{position, Sound}
 use Rattle.model.specs.declared.ComponentId.{ComponentId}
 use Rattle.model.specs.declared.Component.{Component}
 use Rattle.components.proofs.Lookup.{own-place}
-use Rattle.chain.specs.Links.{place, parent}
-use Rattle.cascade.specs.Cascade.{cascade}
-use Rattle.cascade.proofs.Closed.{cascade-closed}
+use Rattle.components.specs.Links.{place, parent}
+use Rattle.holds.specs.Cascade.{cascade}
+use Rattle.holds.proofs.Closed.{cascade-closed}
 use Rattle.history.specs.Demand.{DependsOn, DependsOver, directly, further}
 
 module _ (n : ℕ) (ch : List Component) (s : Sound n ch) where

@@ -18,16 +18,16 @@ use Rattle.model.specs.declared.State.TheVariants.{PowerOnReset, PreSupervision,
 use Rattle.model.specs.declared.Event.{Event}
 use Rattle.model.specs.declared.Effect.{Effect}
 use Rattle.model.proofs.Pick.{pick_p}
-use Rattle.chain.specs.Links.{policy_at}
-use Rattle.cascade.specs.Cascade.{cascade}
-use Rattle.cascade.proofs.Below.{by-test, Within}
+use Rattle.components.specs.Links.{policy_at}
+use Rattle.holds.specs.Cascade.{cascade}
+use Rattle.holds.proofs.Below.{by-test, Within}
 use Rattle.machine.specs.declared.ComponentStatus.{ComponentStatus}
 use Rattle.machine.specs.Status.{fresh, status_at, iso, touch, lift, booted, retry_is, quiet}
 use Rattle.holds.specs.Holds.{gates, gates_say}
-use Rattle.advance.specs.Advance.{seek, verify_says, quiet_says, quiesced}
+use Rattle.holds.specs.Advance.{seek, verify_says, quiet_says, quiesced}
 use Rattle.machine.specs.View.{Core, Out, out, after, in_state, cursor_at, statuses_are}
-use Rattle.entry.specs.Entry.{enter_locked, enter_ready, enter_recovering, enter_walk, onward}
-use Rattle.corruption.specs.Corruption.{gate_then}
+use Rattle.rules.specs.Entry.{enter_locked, enter_ready, enter_recovering, enter_walk, onward}
+use Rattle.rules.specs.Corruption.{gate_then}
 use Rattle.rot.proofs.Weight.{gates-length, gates-cost, weigh, weight}
 use Rattle.history.specs.Demand.{DependsOver}
 use Rattle.history.proofs.Over.{over-inside, cascade-over}

@@ -25,20 +25,20 @@ use Rattle.model.specs.declared.Effect.{Effect}
 use Rattle.model.specs.declared.Effect.TheVariants.{ReleaseReset, SignAttestation, AuthenticateUpdate, StageUpdate, ActivateUpdate, DiscardStaged, CommitSvnFloor, ReportRecoveryFailed, ReportBootFailed, ReportUpdateDeferred, Emit}
 use Rattle.model.proofs.Pick.{pick_p}
 use Rattle.components.proofs.Lookup.{position-holds}
-use Rattle.chain.specs.Links.{policy_at, kind_at}
-use Rattle.cascade.specs.Cascade.{cascade}
-use Rattle.cascade.proofs.Below.{by-test, Within, within-one}
-use Rattle.cascade.proofs.Closed.{cascade-within}
+use Rattle.components.specs.Links.{policy_at, kind_at}
+use Rattle.holds.specs.Cascade.{cascade}
+use Rattle.holds.proofs.Below.{by-test, Within, within-one}
+use Rattle.holds.proofs.Closed.{cascade-within}
 use Rattle.machine.specs.declared.ComponentStatus.{ComponentStatus}
 use Rattle.machine.specs.Status.{status_at, touch, lift, retry_is, bump}
 use Rattle.holds.specs.Holds.{gates}
 use Rattle.machine.specs.View.{Core, Out, out, stay, after, in_state, statuses_are, window_is}
-use Rattle.entry.specs.Entry.{enter_locked, enter_ready, enter_updating, enter_recovering, enter_walk, onward}
-use Rattle.walks.specs.Walks.{released_in, pass, verify_failed, no_wait, progress, component_ready}
-use Rattle.corruption.specs.Corruption.{by_policy, gate_then, recover, corrupt, move_on, abortion}
-use Rattle.failures.specs.Failures.{timeout, boot_failed, by_kind}
-use Rattle.recovery.specs.Recovery.{restored, unavailable, retry_at, start_over, exhausted}
-use Rattle.updates.specs.Updates.{power}
+use Rattle.rules.specs.Entry.{enter_locked, enter_ready, enter_updating, enter_recovering, enter_walk, onward}
+use Rattle.rules.specs.Walks.{released_in, pass, verify_failed, no_wait, progress, component_ready}
+use Rattle.rules.specs.Corruption.{by_policy, gate_then, recover, corrupt, move_on, abortion}
+use Rattle.rules.specs.Failures.{timeout, boot_failed, by_kind}
+use Rattle.rules.specs.Recovery.{restored, unavailable, retry_at, start_over, exhausted}
+use Rattle.rules.specs.Updates.{power}
 use Rattle.rot.specs.Step.{by_state, rule, in_chain, step_of}
 use Rattle.rot.proofs.Choice.{by_kind_p}
 use Rattle.history.proofs.Statuses.{both, iso_at, AllOff}

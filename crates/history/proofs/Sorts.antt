@@ -20,10 +20,10 @@ use Rattle.model.specs.declared.Effect.TheVariants.{ReadFirmware, VerifyFirmware
 use Rattle.model.proofs.Pick.{pick_p}
 use Rattle.components.proofs.Lookup.{own-place}
 use Rattle.pending.specs.Queue.{emits}
-use Rattle.cascade.proofs.Below.{Within}
+use Rattle.holds.proofs.Below.{Within}
 use Rattle.machine.specs.declared.ComponentStatus.{ComponentStatus}
 use Rattle.holds.specs.Holds.{gate, gate_says, gates, gates_say}
-use Rattle.advance.specs.Advance.{verify_says, quiet_says}
+use Rattle.holds.specs.Advance.{verify_says, quiet_says}
 use Rattle.rot.proofs.Weight.{gate-length}
 use Rattle.history.specs.Demand.{Serves, verifies, releases, recovers}
 use Rattle.history.proofs.Statuses.{iso_at, Mono, gate-self, gates-keep}

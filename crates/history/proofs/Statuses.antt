@@ -13,11 +13,11 @@ use lib.Seq.{get_or-set_same, get_or-drop}
 use Rattle.model.specs.Vocabulary.{pick}
 use Rattle.model.specs.declared.Component.{Component}
 use Rattle.model.proofs.Pick.{pick_p}
-use Rattle.cascade.proofs.Below.{by-test, in-cons}
+use Rattle.holds.proofs.Below.{by-test, in-cons}
 use Rattle.machine.specs.declared.ComponentStatus.{ComponentStatus}
 use Rattle.machine.specs.Status.{fresh, status_at, iso, touch}
 use Rattle.holds.specs.Holds.{isolate, gate, gates}
-use Rattle.advance.specs.Advance.{isolated_ahead, seek, quiet_says, quiesced}
+use Rattle.holds.specs.Advance.{isolated_ahead, seek, quiet_says, quiesced}
 use Rattle.rot.proofs.Weight.{gate-length, weigh, weight}
 
 -- ---- Tests

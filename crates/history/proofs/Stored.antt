@@ -20,12 +20,12 @@ use Rattle.model.specs.declared.Event.{Event}
 use Rattle.model.specs.declared.Event.TheVariants.{EffectFailed}
 use Rattle.model.specs.declared.Effect.{Effect}
 use Rattle.model.specs.declared.Effect.TheVariants.{LatchLockdown}
-use Rattle.isolated.specs.Flags.{digits, flags_of, flags}
+use Rattle.store.specs.Flags.{digits, flags_of, flags}
 use Rattle.store.specs.declared.Status.{Status}
 use Rattle.store.specs.declared.Sink.{Sink}
 use Rattle.store.specs.Sink.{held}
-use Rattle.chain.specs.declared.Chain.{Chain}
-use Rattle.chain.specs.Links.{parent}
+use Rattle.components.specs.declared.Chain.{Chain}
+use Rattle.components.specs.Links.{parent}
 use Rattle.pending.specs.declared.Pending.{Pending}
 use Rattle.pending.specs.Queue.{events}
 use Rattle.machine.specs.declared.ComponentStatus.{ComponentStatus}
@@ -164,9 +164,11 @@ rows-length (suc n) f = ap suc (rows-length n (λ k. f (suc k)))
 unfoldable pub chart_of : (l : ComponentList) → length (entries_of l) ≤ 255 → Chain
 chart_of l h = record {
   list = l;
+  count = length (entries_of l);
   positions = rows 256 (λ i. position (entries_of l) (id_of i));
   parents = rows 255 (parent (entries_of l));
   few = h;
+  counted = refl;
   by_id = λ i k. rows_at 256 (λ i. position (entries_of l) (id_of i)) i k;
   by_place = λ p k. rows_at 255 (parent (entries_of l)) p (omega arith);
 }

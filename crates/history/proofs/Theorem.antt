@@ -10,8 +10,8 @@ use Rattle.components.proofs.Accepted.{accepted}
 use Rattle.settling.specs.declared.whole.Machine.{Machine}
 use Rattle.settling.specs.Settle.{Model}
 use Rattle.settling.specs.View.{view, chain_of, Valid}
-use Rattle.chain.specs.Tables.{entries}
-use Rattle.chain.specs.declared.Chain.{Chain}
+use Rattle.components.specs.Tables.{entries}
+use Rattle.components.specs.declared.Chain.{Chain}
 use Rattle.sm.specs.Calls.{Expected}
 use Rattle.sm.specs.Gives.{Fresh, number_of}
 use Rattle.history.specs.History.{Call, expected, machine_after, expected_after, Answered, answers_to, log_of}

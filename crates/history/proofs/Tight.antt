@@ -13,9 +13,9 @@ use Rattle.model.specs.declared.ComponentKind.TheVariants.{Active, Passive}
 use Rattle.model.specs.declared.FailurePolicy.TheVariants.{Required, Cascading}
 use Rattle.model.specs.declared.PowerOnResult.TheVariants.{Provisioned}
 use Rattle.model.specs.declared.Event.TheVariants.{PowerGood, VerificationPassed, VerificationFailed, RecoveryUnavailable}
-use Rattle.cascade.specs.Cascade.{below, children_in, children_of, spread, cascade}
+use Rattle.holds.specs.Cascade.{below, children_in, children_of, spread, cascade}
 use Rattle.holds.specs.Holds.{gates, gates_say}
-use Rattle.advance.specs.Advance.{isolated_ahead, quiet_says}
+use Rattle.holds.specs.Advance.{isolated_ahead, quiet_says}
 use Rattle.rot.specs.Step.{step_of}
 use Rattle.settling.specs.declared.whole.Machine.{Machine}
 use Rattle.settling.specs.Settle.{turns, settle}

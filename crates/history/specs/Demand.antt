@@ -8,7 +8,7 @@ use Rattle.model.specs.declared.FailurePolicy.TheVariants.{Cascading}
 use Rattle.model.specs.declared.Event.TheVariants.{VerificationPassed}
 use Rattle.model.specs.declared.Effect.{Effect}
 use Rattle.model.specs.declared.Effect.TheVariants.{VerifyFirmware, ReleaseReset, RecoverComponent}
-use Rattle.chain.specs.Links.{policy_at}
+use Rattle.components.specs.Links.{policy_at}
 use Rattle.settling.specs.declared.whole.Machine.{Machine}
 use Rattle.settling.specs.View.{view, chain_of}
 use Rattle.sm.specs.declared.Called.{Called}

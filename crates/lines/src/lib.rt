@@ -1,11 +1,13 @@
 // The lines of a sheet, each read from its bytes without the byte 10 that ends it.
 #![tactic(auto)]
 
-ghost use Rattle.std.specs.Prelude.{◌≡◌, [], ◌∷◌, Some, None};
+ghost use Rattle.std.specs.Prelude.{◌≡◌, [], ◌∷◌, ◌++◌, Some, None, MatchOption};
 ghost use Rattle.model.specs.declared.ComponentKind.TheVariants.{Active, Passive};
 ghost use Rattle.model.specs.declared.FailurePolicy.TheVariants.{Required, Isolable, Cascading};
-ghost use Rattle.text.specs.Text.{bytes};
+ghost use Rattle.text.specs.Text.{bytes, ◌⇥◌};
+ghost use Rattle.text.specs.Values.{option_text};
 ghost use Rattle.fields.specs.Fields.{lookup};
+ghost use Rattle.lines.specs.Grammar.{kind_text, policy_text, order_line, DependencyInRange, BeginsLine};
 ghost use Rattle.lines.specs.Read.{card_of, retry_of, answer_of, row_of};
 
 use model::{
@@ -95,7 +97,9 @@ fn read_answer(l: &[u8]) -> Option<Row>
     }
 }
 
-// A line of a sheet. Any bytes whatever are one of the rows, or none.
+// A line of a sheet. Any bytes whatever are one of the rows, or none. Few lines are read so (`first_line` tells the others): a
+// call of its own, so that its locals are not the reader's.
+#[inline(never)]
 #[tactic(auto, using(crate::proofs::Names::told), unfolding(fields::specs::Fields::lookup, crate::specs::Read::row_of))]
 pub fn read_line(line: &[u8]) -> Option<Row>
     ensures { result ≡ row_of line.now }
@@ -107,5 +111,119 @@ pub fn read_line(line: &[u8]) -> Option<Row>
         b"E" => events::read_event(others).map(Row::Begin),
         b"R" => read_answer(others),
         _ => None,
+    }
+}
+
+// ---- by the first bytes: `None` promises nothing in what follows, and such a line is read the long way
+
+// The kind or the policy whose name and a tab a text begins with, and what follows: told by the name's first byte.
+#[inline(always)]
+fn first_kind(l: &[u8]) -> Option<(ComponentKind, &[u8])>
+    ensures { MatchOption result (Unit {0}) (λ r. l.now ≡ kind_text r.0 ⇥ r.1.now) }
+{
+    match l.first()? {
+        b'A' => Some((ComponentKind::Active, fields::behind(l, b"Active\t")?)),
+        _ => Some((ComponentKind::Passive, fields::behind(l, b"Passive\t")?)),
+    }
+}
+
+#[inline(always)]
+fn first_policy(l: &[u8]) -> Option<(FailurePolicy, &[u8])>
+    ensures { MatchOption result (Unit {0}) (λ r. l.now ≡ policy_text r.0 ⇥ r.1.now) }
+{
+    match l.first()? {
+        b'R' => Some((FailurePolicy::Required, fields::behind(l, b"Required\t")?)),
+        b'I' => Some((FailurePolicy::Isolable, fields::behind(l, b"Isolable\t")?)),
+        _ => Some((FailurePolicy::Cascading, fields::behind(l, b"Cascading\t")?)),
+    }
+}
+
+// The `-` or the component that ends a C line, and what follows the line.
+#[inline(always)]
+fn first_dependency(l: &[u8]) -> Option<(Option<ComponentId>, &[u8])>
+    ensures { MatchOption result (Unit {0}) (λ r. (l.now ≡ option_text r.0 ++ 10 ∷ r.1.now) × DependencyInRange r.0) }
+{
+    match l {
+        [b'-', b'\n', rest @ ..] => Some((None, rest)),
+        _ => {
+            let (id, rest) = fields::ended_byte(l, b'\n')?;
+            Some((Some(ComponentId(id)), rest))
+        }
+    }
+}
+
+// The C line that a text begins with after its letter and the tab.
+fn first_card(l: &[u8]) -> Option<(Row, &[u8])>
+    ensures { MatchOption result (Unit {0}) (λ r. BeginsLine (bytes "C" ⇥ l.now) r.0 r.1.now) }
+{
+    let (id, l) = fields::ended_byte(l, b'\t')?;
+    let (kind, l) = first_kind(l)?;
+    let (failure_policy, l) = first_policy(l)?;
+    let (region, l) = fields::ended_byte(l, b'\t')?;
+    let (depends_on, rest) = first_dependency(l)?;
+    let attrs = ComponentAttrs {
+        kind,
+        failure_policy,
+        recovery_region: RegionId(region),
+        depends_on,
+    };
+    let card = Component {
+        id: ComponentId(id),
+        attrs,
+    };
+    Some((Row::Card(card), rest))
+}
+
+// The R line with no event that a text begins with, ended by byte 10, and what follows.
+#[tactic(auto, unfolding(crate::specs::Grammar::answer_line))]
+fn first_reply(l: &[u8]) -> Option<(Row, &[u8])>
+    ensures { MatchOption result (Unit {0}) (λ r. BeginsLine l.now r.0 r.1.now) }
+{
+    match l {
+        [b'R', b'\t', b'o', b'k', b'\n', rest @ ..] => Some((Row::Answer(Reply::Done), rest)),
+        [b'R', b'\t', b'n', b'o', b'\n', rest @ ..] => Some((Row::Answer(Reply::Failed), rest)),
+        _ => None,
+    }
+}
+
+// Whether a line that begins with its event's text is a reply, and that text.
+#[inline(always)]
+fn order_text(l: &[u8]) -> Option<(bool, &[u8])>
+    ensures { MatchOption result (Unit {0}) (λ r. l.now ≡ order_line r.0 r.1.now) }
+{
+    match l {
+        [b'E', b'\t', text @ ..] => Some((false, text)),
+        _ => Some((true, fields::behind(l, b"R\tthen\t")?)),
+    }
+}
+
+// The E line or the reply with an event. Both ask for the event at one place, so that its names stand once in the program and
+// reading them is no call.
+#[tactic(auto, unfolding(crate::specs::Grammar::begin_line, crate::specs::Grammar::answer_line))]
+fn first_order(l: &[u8]) -> Option<(Row, &[u8])>
+    ensures { MatchOption result (Unit {0}) (λ r. BeginsLine l.now r.0 r.1.now) }
+{
+    let (is_reply, text) = order_text(l)?;
+    let (event, rest) = events::first_event(text)?;
+    if is_reply {
+        return Some((Row::Answer(Reply::Then(event)), rest));
+    }
+    Some((Row::Begin(event), rest))
+}
+
+// The line that a text begins with, ended by byte 10, and what follows: without looking for that byte first. What is none here may
+// be a line: `read_line` decides.
+#[tactic(auto, unfolding(crate::specs::Grammar::retry_line))]
+pub fn first_line(l: &[u8]) -> Option<(Row, &[u8])>
+    ensures { MatchOption result (Unit {0}) (λ r. BeginsLine l.now r.0 r.1.now) }
+{
+    match l {
+        [b'B', b'\t', text @ ..] => {
+            let (n, rest) = fields::ended_byte(text, b'\n')?;
+            Some((Row::Retry(n), rest))
+        }
+        [b'C', b'\t', text @ ..] => first_card(text),
+        [b'R', b'\t', b'o' | b'n', ..] => first_reply(l),
+        _ => first_order(l),
     }
 }

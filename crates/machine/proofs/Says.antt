@@ -23,3 +23,9 @@ says-held s (e ∷ es) f h =
     let l = with-len s e k in
     let more = says-held (with_effect s e) es (with-slots s e ∙ f) (omega arith) in
     (more.0 ∙ ap (λ (l : List Effect). l ++ es) (with-held s e f k) ∙ append_assoc (held s) (e ∷ []) es, omega arith)
+
+-- The array stays as long.
+pub says-slots : (s : Sink) (es : List Effect) → length (says s es).effects.items ≡ length s.effects.items
+unfolding says
+says-slots s [] = refl
+says-slots s (e ∷ es) = says-slots (with_effect s e) es ∙ with-slots s e

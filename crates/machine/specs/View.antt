@@ -1,8 +1,8 @@
 -- A machine as the rules see it, and how the code's structs are read as one.
-use Rattle.std.specs.Prelude.{◌≡◌, Bool, true, false, List, [], ◌∷◌, ◌++◌, ℕ, ◌-◌, ◌≤◌, take, drop, replicate}
+use Rattle.std.specs.Prelude.{◌≡◌, Bool, true, false, List, [], ◌∷◌, ◌++◌, ℕ, ◌-◌, ◌≤◌, length, take, drop, replicate}
 use Rattle.model.specs.declared.State.{State}
 use Rattle.model.specs.declared.Effect.{Effect}
-use Rattle.isolated.specs.Flags.{flags}
+use Rattle.store.specs.Flags.{flags}
 use Rattle.store.specs.declared.Sink.{Sink}
 use Rattle.store.specs.declared.Status.{Status}
 use Rattle.store.specs.Stored.{unset}
@@ -55,10 +55,6 @@ lifecycle_of false = Nominal
 abbrev pub status_of : Bool → Status → ComponentStatus
 status_of b s = record { lifecycle = lifecycle_of b; retry = s.retry; awaiting_boot = s.awaiting_boot; released = s.released }
 
--- A status with what s stores: whether it is isolated is not stored.
-abbrev pub stored : Status → ComponentStatus → ComponentStatus
-stored s old = record { lifecycle = old.lifecycle; retry = s.retry; awaiting_boot = s.awaiting_boot; released = s.released }
-
 unfoldable pub joined : List Bool → List Status → List ComponentStatus
 joined [] ss = []
 joined (b ∷ bs) [] = []
@@ -92,8 +88,20 @@ pub record Fit (n : ℕ) (r : Rot) : Type 0 where
   pub clean : drop n (flags r.isolated) ≡ replicate (256 - n) false
   pub low : r.cursor ≤ n
 
--- r is what the outcome o makes of w: the machine, the effects behind those before, and where w fits r fits.
+-- Each array has the places of its type.
+pub record Sized (r : Rot) : Type 0 where
+  pub statuses : length r.statuses ≡ 255
+  pub words : length r.isolated.words ≡ 4
+
+-- The same of a machine at work.
+pub record Whole (w : Work) : Type 0 where
+  pub sized : Sized w.rot
+  pub slots : length w.sink.effects.items ≡ 512
+
+-- r is what the outcome o makes of w: the machine, the effects behind those before; where w fits r fits, and the arrays keep
+-- their places.
 pub record Ran (n : ℕ) (w : Work) (o : Out) (r : Work) : Type 0 where
   pub core : core_of n r ≡ o.core
   pub sink : r.sink ≡ says w.sink o.said
   pub fit : Fit n w.rot → Fit n r.rot
+  pub sized : Sized w.rot → Sized r.rot

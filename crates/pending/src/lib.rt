@@ -35,48 +35,45 @@ impl Pending {
     }
 
     // How many events are queued, at most 8.
-    pub fn count(self) -> usize
-        ensures { (result ≡ length (events self)) × (result ≤ 8) }
+    pub fn count(&self) -> usize
+        ensures { (result ≡ length (events self.now)) × (result ≤ 8) }
     {
         self.entries.count()
     }
 
     // The event to be settled next.
-    pub fn front(self) -> Option<Event>
-        ensures { result ≡ first_of (events self) }
+    pub fn front(&self) -> Option<Event>
+        ensures { result ≡ first_of (events self.now) }
     {
         self.entries.as_slice().first().copied()
     }
 
-    // The queue without its front event.
-    pub fn pop_front(mut self) -> Self
-        ensures { events result ≡ rest (events self) }
+    // The front event goes. Only the events behind it are moved up, since nearly always there is none.
+    pub fn pop_front(&mut self)
+        ensures { events self.new ≡ rest (events self.old) }
     {
         let n = self.count();
         if n == 0 {
-            return self;
+            return;
         }
-        self.entries.items.rotate_left(1);
+        self.entries.items.copy_within(1..n, 0);
         self.entries.len = n - 1;
-        self
     }
 
     // One event more at the back. One that finds 8 is lost.
-    pub fn push_back(mut self, event: Event) -> Self
-        ensures { events result ≡ at_back event (events self) }
+    pub fn push_back(&mut self, event: Event)
+        ensures { events self.new ≡ at_back event (events self.old) }
     {
         self.entries.push(event);
-        self
     }
 
     // EffectFailed goes to the front, so that it settles next. Of 8 events the newest gives way to it.
-    pub fn latch(mut self) -> Self
-        ensures { events result ≡ latched (events self) }
+    pub fn latch(&mut self)
+        ensures { events self.new ≡ latched (events self.old) }
     {
-        let n = self.count();
-        self.entries.items.rotate_right(1);
+        let n = self.count().min(7);
+        self.entries.items.copy_within(0..n, 1);
         self.entries.items[0] = Event::EffectFailed;
-        self.entries.len = (n + 1).min(8);
-        self
+        self.entries.len = n + 1;
     }
 }

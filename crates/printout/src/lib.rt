@@ -25,20 +25,21 @@ const TOO_LONG: Answer = Answer {
 };
 
 // The line of a refusal. By hand in fixed memory, as text's lines are: no `Display` promises its text there.
-pub fn refusal_line(number: u64, place: u64, other: u64) -> Line
-    ensures { Built (refusal_line number place other) result }
+pub fn refusal_line(l: &mut Line, number: u64, place: u64, other: u64)
+    ensures { Built (refusal_line number place other) l.new }
 {
-    let numbered = text::push_number(text::push(text::empty(), b'F'), number);
-    text::push(
-        text::push_number(text::push_number(numbered, place), other),
-        b'\n',
-    )
+    text::clear(l);
+    text::push(l, b'F');
+    text::push_number(l, number);
+    text::push_number(l, place);
+    text::push_number(l, other);
+    text::push(l, b'\n');
 }
 
 impl Printout {
     // A line behind what is printed.
-    fn lengthen(&mut self, l: Line)
-        ensures { Lengthened self.old (text_of l) self.new }
+    fn lengthen(&mut self, l: &Line)
+        ensures { Lengthened self.old (text_of l.now) self.new }
     {
         if let Some(end) = text::append(&mut self.bytes.items, self.bytes.len, l) {
             self.bytes.len = end;
@@ -64,7 +65,9 @@ pub fn replay(input: &[u8]) -> Printout
         },
     };
     if answer.number != 0 {
-        printed.lengthen(refusal_line(answer.number, answer.place, answer.other));
+        let mut line = text::empty();
+        refusal_line(&mut line, answer.number, answer.place, answer.other);
+        printed.lengthen(&line);
     }
     printed
 }

@@ -12,7 +12,7 @@ use Rattle.lines.specs.declared.Row.{Row}
 use Rattle.reader.specs.declared.Part.{Part}
 use Rattle.reader.specs.declared.Part.TheVariants.{Opening}
 use Rattle.reader.specs.declared.Sheet.{Sheet}
-use Rattle.reader.specs.Read.{rows_in, part_after, is_wrong, bad_from, bad_line, good_from, good_in, retry_in, cards_in, pushed_all, Whole}
+use Rattle.reader.specs.Read.{rows_in, part_after, is_wrong, bad_from, bad_line, good_from, good_in, retry_in, cards_in, pushed_all, no_lines, Whole}
 
 good-from : (part : Part) (n : ℕ) (rs : List (Option Row)) → 0 < n → bad_from part n rs ≡ 0 → good_from part rs ≡ rs
 unfolding bad_from good_from
@@ -29,8 +29,10 @@ pub good-all : (s : List ℕ) → bad_line s ≡ 0 → good_in s ≡ rows_in s
 unfolding bad_line good_in
 good-all s e = good-from Opening 1 (rows_in s) (omega arith) e
 
-module _ (s : List ℕ) (r : Sheet) (w : Whole s r) where
+-- What is known of a whole sheet by itself.
+module _ (s : List ℕ) (r : Sheet) (w : Whole s no_lines r) where
   pub retry-whole : r.max_retry ≡ retry_in s
+  unfolding retry_in
   retry-whole = w.retry
 
   pub list-whole : r.list ≡ pushed_all no_entries (cards_in s)

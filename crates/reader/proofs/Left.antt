@@ -9,13 +9,13 @@ use native.Mathlib.Numerals.{add-one}
 use lib.ListN.{length, drop}
 use Rattle.model.specs.Vocabulary.{pick}
 use Rattle.components.specs.declared.ComponentList.{ComponentList}
-use Rattle.components.specs.Chain.{no_entries}
 use Rattle.lines.specs.declared.Row.{Row}
 use Rattle.lines.specs.declared.Row.TheVariants.{Retry, Card, Begin, Answer}
 use Rattle.reader.specs.declared.Part.{Part}
 use Rattle.reader.specs.declared.Part.TheVariants.{Opening}
 use Rattle.reader.specs.declared.Next.{Next}
-use Rattle.reader.specs.Read.{rows_in, part_after, is_wrong, is_opening, bad_from, bad_line, good_from, good_in, retry_after, retry_from, retry_in, card_before, cards_of, cards_in, pushed_all, Reads, Whole, Bad}
+use Rattle.reader.specs.declared.Sheet.{Sheet}
+use Rattle.reader.specs.Read.{rows_in, part_after, is_wrong, is_opening, bad_from, bad_line, good_from, good_in, retry_after, retry_from, card_before, cards_of, cards_in, pushed_all, Reads, Whole, Bad}
 use Rattle.reader.proofs.Rows.{rows-past}
 use Rattle.reader.proofs.Good.{good-all}
 
@@ -59,24 +59,24 @@ pub good-end : (part : Part) → good_from part [] ≡ []
 unfolding good_from
 good-end part = refl
 
--- The answers of the sheet s are those of what stands from `at` on, with these told before.
-pub record Left (s : List ℕ) (at line : ℕ) (part : Part) (n : ℕ) (l : ComponentList) : Type 0 where
+-- The answers of the sheet s are those of what stands from `at` on, where `read` is known of what stands before.
+pub record Left (s : List ℕ) (before : Sheet) (at line : ℕ) (part : Part) (read : Sheet) : Type 0 where
   pub bad : bad_line s ≡ bad_from part line (rows_in (drop at s))
-  pub retry : retry_from 0 (good_in s) ≡ retry_from n (good_from part (rows_in (drop at s)))
-  pub list : pushed_all no_entries (cards_of (good_in s)) ≡ pushed_all l (cards_of (good_from part (rows_in (drop at s))))
+  pub retry : retry_from before.max_retry (good_in s) ≡ retry_from read.max_retry (good_from part (rows_in (drop at s)))
+  pub list : pushed_all before.list (cards_of (good_in s)) ≡ pushed_all read.list (cards_of (good_from part (rows_in (drop at s))))
 
-pub left-all : (s : List ℕ) → Left s 0 1 Opening 0 no_entries
+pub left-all : (s : List ℕ) (before : Sheet) → Left s before 0 1 Opening before
 unfolding bad_line good_in
-left-all s = record { bad = refl; retry = refl; list = refl }
+left-all s before = record { bad = refl; retry = refl; list = refl }
 
-module _ (s : List ℕ) (at line : ℕ) (part : Part) (n : ℕ) (l : ComponentList) (left : Left s at line part n l) where
-  -- No good row is left: what was told before is the answer.
+module _ (s : List ℕ) (before : Sheet) (at line : ℕ) (part : Part) (read : Sheet) (left : Left s before at line part read) where
+  -- No good row is left: what is known is the answer.
   module _ (g : good_from part (rows_in (drop at s)) ≡ []) where
-    told-retry : n ≡ retry_from 0 (good_in s)
-    told-retry = sym (left.retry ∙ ap (retry_from n) g ∙ retry-end n)
+    told-retry : read.max_retry ≡ retry_from before.max_retry (good_in s)
+    told-retry = sym (left.retry ∙ ap (retry_from read.max_retry) g ∙ retry-end read.max_retry)
 
-    told-list : l ≡ pushed_all no_entries (cards_of (good_in s))
-    told-list = sym (left.list ∙ ap (λ (x : List (Option Row)). pushed_all l (cards_of x)) g ∙ pushed-end l)
+    told-list : read.list ≡ pushed_all before.list (cards_of (good_in s))
+    told-list = sym (left.list ∙ ap (λ (x : List (Option Row)). pushed_all read.list (cards_of x)) g ∙ pushed-end read.list)
 
   -- The line at `at`.
   module _ (r : Next) (reads : Reads s at r) (q : Part) (e : q ≡ part_after part r.row) where
@@ -90,7 +90,7 @@ module _ (s : List ℕ) (at line : ℕ) (part : Part) (n : ℕ) (l : ComponentLi
         ap (good_from part) reads.row ∙ good-next part r.row _
         ∙ ap (λ (x : Part). pick (is_wrong x) [] (r.row ∷ good_from x (rows_in (drop r.after s)))) (sym e)
 
-    pub left-wrong : is_wrong q ≡ true → 0 < line → Bad s record { line = line; before = record { max_retry = n; list = l } }
+    pub left-wrong : is_wrong q ≡ true → 0 < line → Bad s before record { line = line } read
     left-wrong w h =
         let g = good-by ∙ ap (λ (b : Bool). pick b [] (r.row ∷ good_from q (rows_in (drop r.after s)))) w in
         record {
@@ -100,17 +100,17 @@ module _ (s : List ℕ) (at line : ℕ) (part : Part) (n : ℕ) (l : ComponentLi
           list = told-list g;
         }
 
-    pub left-next : is_wrong q ≡ false → (k : ℕ) → k ≡ retry_after n r.row → (m : ComponentList) → m ≡ pushed_all l (card_before r.row [])
-        → Left s r.after (line + 1) q k m
-    left-next w k p m g =
+    pub left-next : is_wrong q ≡ false → (m : Sheet) → m.max_retry ≡ retry_after read.max_retry r.row
+        → m.list ≡ pushed_all read.list (card_before r.row []) → Left s before r.after (line + 1) q m
+    left-next w m p g =
         let after = rows_in (drop r.after s) in
         let rest = good_from q after in
         let good : good_from part (rows_in (drop at s)) ≡ r.row ∷ rest = good-by ∙ ap (λ (b : Bool). pick b [] (r.row ∷ rest)) w in
         record {
           bad = bad-by ∙ ap (λ (b : Bool). pick b line (bad_from q (suc line) after)) w ∙ ap (λ (i : ℕ). bad_from q i after) (sym (add-one line));
-          retry = left.retry ∙ ap (retry_from n) good ∙ retry-next n r.row rest ∙ ap (λ (i : ℕ). retry_from i rest) (sym p);
+          retry = left.retry ∙ ap (retry_from read.max_retry) good ∙ retry-next read.max_retry r.row rest ∙ ap (λ (i : ℕ). retry_from i rest) (sym p);
           list =
-              left.list ∙ ap (λ (x : List (Option Row)). pushed_all l (cards_of x)) good ∙ pushed-next l r.row rest
+              left.list ∙ ap (λ (x : List (Option Row)). pushed_all read.list (cards_of x)) good ∙ pushed-next read.list r.row rest
               ∙ ap (λ (x : ComponentList). pushed_all x (cards_of rest)) (sym g);
         }
 
@@ -125,7 +125,7 @@ module _ (s : List ℕ) (at line : ℕ) (part : Part) (n : ℕ) (l : ComponentLi
     none-good : good_from part (rows_in (drop at s)) ≡ []
     none-good = ap (good_from part) none ∙ good-end part
 
-    pub left-opening : is_opening part ≡ true → 0 < line → Bad s record { line = line; before = record { max_retry = n; list = l } }
+    pub left-opening : is_opening part ≡ true → 0 < line → Bad s before record { line = line } read
     left-opening o f =
         record {
           line = sym (end_by ∙ ap (λ (b : Bool). pick b line 0) o);
@@ -135,13 +135,13 @@ module _ (s : List ℕ) (at line : ℕ) (part : Part) (n : ℕ) (l : ComponentLi
         }
 
     -- No line was bad, so that the lines before it are all of them.
-    pub left_end : is_opening part ≡ false → Whole s record { max_retry = n; list = l }
-    unfolding retry_in cards_in
+    pub left_end : is_opening part ≡ false → Whole s before read
+    unfolding cards_in
     left_end o =
         let good = end_by ∙ ap (λ (b : Bool). pick b line 0) o in
         let all = good-all s good in
         record {
           good = good;
-          retry = told-retry none-good ∙ ap (retry_from 0) all;
-          list = told-list none-good ∙ ap (λ (x : List (Option Row)). pushed_all no_entries (cards_of x)) all;
+          retry = told-retry none-good ∙ ap (retry_from before.max_retry) all;
+          list = told-list none-good ∙ ap (λ (x : List (Option Row)). pushed_all before.list (cards_of x)) all;
         }

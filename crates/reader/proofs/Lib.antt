@@ -4,5 +4,6 @@ pub mod Good
 pub mod Left
 pub mod Kept
 pub mod Unbroken
+pub mod Told
 pub mod Inverse
 pub mod Examples

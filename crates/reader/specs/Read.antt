@@ -144,20 +144,25 @@ pub record Reads (s : List ℕ) (at : ℕ) (r : Next) : Type 0 where
   pub onward : at < r.after
   pub within : r.after ≤ length s
 
--- max_retry and the components of a sheet in which no line is bad; of more than 255 the first 255 are kept.
-pub record Whole (s : List ℕ) (r : Sheet) : Type 0 where
+-- What is known before a line is read.
+abbrev pub no_lines : Sheet
+no_lines = record { max_retry = 0; list = no_entries }
+
+-- No line is bad: max_retry is that of the sheet, or what it was before where no line says it, and the components of the sheet
+-- are added to those before; of more than 255 the first 255 are kept.
+pub record Whole (s : List ℕ) (before after : Sheet) : Type 0 where
   pub good : bad_line s ≡ 0
-  pub retry : r.max_retry ≡ retry_in s
-  pub list : r.list ≡ pushed_all no_entries (cards_in s)
+  pub retry : after.max_retry ≡ retry_from before.max_retry (rows_in s)
+  pub list : after.list ≡ pushed_all before.list (cards_in s)
 
 -- The line that is refused is the first bad one. max_retry and the components are those of the lines before it.
-pub record Bad (s : List ℕ) (b : BadSheet) : Type 0 where
+pub record Bad (s : List ℕ) (before : Sheet) (b : BadSheet) (after : Sheet) : Type 0 where
   pub line : b.line ≡ bad_line s
   pub some : 0 < b.line
-  pub retry : b.before.max_retry ≡ retry_from 0 (good_in s)
-  pub list : b.before.list ≡ pushed_all no_entries (cards_of (good_in s))
+  pub retry : after.max_retry ≡ retry_from before.max_retry (good_in s)
+  pub list : after.list ≡ pushed_all before.list (cards_of (good_in s))
 
--- What the sheet says, or its first bad line and what the lines before it say.
-abbrev pub ReadAs : List ℕ → Result Sheet BadSheet → Type 0
-ReadAs s (Ok r) = Whole s r
-ReadAs s (Err b) = Bad s b
+-- What the sheet says is added to what was known before, or the lines before its first bad line are, which is told.
+abbrev pub ReadAs : List ℕ → Sheet → Result (Unit {0}) BadSheet → Sheet → Type 0
+ReadAs s before (Ok u) after = Whole s before after
+ReadAs s before (Err b) after = Bad s before b after

@@ -2,7 +2,7 @@
 #![tactic(auto)]
 
 ghost use Rattle.std.specs.Prelude.{◌≡◌, ◌<◌, length};
-ghost use Rattle.reader.specs.Read.{part_after, Reads, ReadAs};
+ghost use Rattle.reader.specs.Read.{part_after, no_lines, Reads, ReadAs};
 
 use components::ComponentList;
 use lines::Row;
@@ -31,19 +31,37 @@ pub struct Sheet {
     pub list: ComponentList,
 }
 
-// The first line that is bad, counted from 1, and what the lines before it say.
+impl Sheet {
+    // What is known before a line is read.
+    pub fn new() -> Self
+        ensures { result ≡ no_lines }
+    {
+        Sheet {
+            max_retry: 0,
+            list: ComponentList::new(),
+        }
+    }
+}
+
+// The first line that is bad, counted from 1.
 #[derive(Clone, Copy)]
 pub struct BadSheet {
     pub line: usize,
-    pub before: Sheet,
 }
 
-// The line at a place of the sheet. A line that is not ended is bad.
+// The line at a place of the sheet. A line that is not ended is bad. Nearly all lines are told by their first bytes
+// (`lines::first_line`), and only of the others the end is looked for.
 pub fn next_line(sheet: &[u8], at: usize) -> Next
     requires { at < length sheet.now }
     ensures { Reads sheet.now at result }
 {
     let m = &sheet[at..];
+    if let Some((row, rest)) = lines::first_line(m) {
+        return Next {
+            row: Some(row),
+            after: sheet.len() - rest.len(),
+        };
+    }
     let n = fields::place(m, 10);
     if n == m.len() {
         return Next {
@@ -68,38 +86,31 @@ fn part_after(part: Part, row: Option<Row>) -> Part
     }
 }
 
-// Question 1 is put to every line, and the B and C lines are kept. Other lines leave the list alone, which is long to copy.
-pub fn read_sheet(sheet: &[u8]) -> Result<Sheet, BadSheet>
-    ensures { ReadAs sheet.now result }
+// Question 1 is put to every line, and what the B and C lines say is added to what is lent: by value the list would be copied on
+// its way out. Where a line is bad, what the lines before it say has been added.
+pub fn read_sheet(sheet: &[u8], read: &mut Sheet) -> Result<(), BadSheet>
+    ensures { ReadAs sheet.now read.old result read.new }
 {
     let mut at = 0;
     let mut line = 1;
     let mut part = Part::Opening;
-    let mut max_retry = 0;
-    let mut list = ComponentList::new();
     // From place to place: a step is as long as its line, so that no range counts it. The line's number goes along.
     while at < sheet.len() {
         let next = next_line(sheet, at);
         part = part_after(part, next.row);
         if part == Part::Wrong {
-            return Err(BadSheet {
-                line,
-                before: Sheet { max_retry, list },
-            });
+            return Err(BadSheet { line });
         }
         match next.row {
-            Some(Row::Retry(n)) => max_retry = n,
-            Some(Row::Card(c)) => list = list.push(c),
+            Some(Row::Retry(n)) => read.max_retry = n,
+            Some(Row::Card(c)) => read.list.put(c),
             _ => {}
         }
         at = next.after;
         line += 1;
     }
     if part == Part::Opening {
-        return Err(BadSheet {
-            line,
-            before: Sheet { max_retry, list },
-        });
+        return Err(BadSheet { line });
     }
-    Ok(Sheet { max_retry, list })
+    Ok(())
 }

@@ -25,24 +25,24 @@ use Rattle.model.specs.declared.Event.TheVariants.{PowerGood, VerificationPassed
 use Rattle.model.specs.declared.Effect.{Effect}
 use Rattle.model.specs.declared.Effect.TheVariants.{ReleaseReset, SignAttestation, AuthenticateUpdate, StageUpdate, ActivateUpdate, DiscardStaged, CommitSvnFloor, ReportRecoveryFailed, ReportBootFailed, ReportUpdateDeferred, LatchLockdown, Emit}
 use Rattle.model.proofs.Pick.{pick_p}
-use Rattle.chain.specs.Links.{policy_at, kind_at}
-use Rattle.cascade.specs.Cascade.{cascade}
+use Rattle.components.specs.Links.{policy_at, kind_at}
+use Rattle.holds.specs.Cascade.{cascade}
 use Rattle.machine.specs.declared.ComponentStatus.{ComponentStatus}
 use Rattle.machine.specs.Status.{status_at, iso, touch, quiet, booted, lift, retry_is, bump}
 use Rattle.holds.specs.Holds.{gates, gates_say}
-use Rattle.advance.specs.Advance.{seek, quiesced}
+use Rattle.holds.specs.Advance.{seek, quiesced}
 use Rattle.machine.specs.View.{Core, Out, out, stay, after, in_state, cursor_at, statuses_are, window_is}
-use Rattle.entry.specs.Entry.{enter_locked, enter_ready, enter_updating, enter_recovering, enter_walk, onward}
-use Rattle.updates.specs.Updates.{power, attest, defer}
-use Rattle.walks.specs.Walks.{released_in, pass, verify_failed, no_wait, progress, component_ready}
-use Rattle.corruption.specs.Corruption.{gate_then, recover, corrupt, move_on, abortion}
-use Rattle.failures.specs.Failures.{timeout, by_kind, boot_failed}
-use Rattle.recovery.specs.Recovery.{retry_at, start_over, exhausted, restored, unavailable}
+use Rattle.rules.specs.Entry.{enter_locked, enter_ready, enter_updating, enter_recovering, enter_walk, onward}
+use Rattle.rules.specs.Updates.{power, attest, defer}
+use Rattle.rules.specs.Walks.{released_in, pass, verify_failed, no_wait, progress, component_ready}
+use Rattle.rules.specs.Corruption.{gate_then, recover, corrupt, move_on, abortion}
+use Rattle.rules.specs.Failures.{timeout, by_kind, boot_failed}
+use Rattle.rules.specs.Recovery.{retry_at, start_over, exhausted, restored, unavailable}
 use Rattle.rot.specs.Step.{rule, in_chain, step_of}
 use Rattle.rot.proofs.Choice.{by_policy_p, by_kind_p, by_state_p}
-use Rattle.cascade.proofs.Below.{Within, within-one}
-use Rattle.cascade.proofs.Closed.{cascade-within}
-use Rattle.advance.proofs.Laws.{seek-le}
+use Rattle.holds.proofs.Below.{Within, within-one}
+use Rattle.holds.proofs.Closed.{cascade-within}
+use Rattle.holds.proofs.Laws.{seek-le}
 use Rattle.rot.proofs.Weight.{gates-length, weight, weight-most, weight-touch, gates-cost, advance-cost, walk-cost}
 
 -- A machine with n statuses, whose cursor is at most n if it was so at the start, where it was q.

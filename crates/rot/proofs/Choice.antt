@@ -7,8 +7,8 @@ use Rattle.model.specs.declared.BootFailureKind.{BootFailureKind}
 use Rattle.model.specs.declared.BootFailureKind.TheVariants.{TimedOut, DeviceRetriable, DeviceFatal}
 use Rattle.model.specs.declared.State.{State}
 use Rattle.model.specs.declared.State.TheVariants.{PowerOnReset, PreSupervision, AwaitingReady, Ready, Updating, Recovering, Locked}
-use Rattle.corruption.specs.Corruption.{by_policy}
-use Rattle.failures.specs.Failures.{by_kind}
+use Rattle.rules.specs.Corruption.{by_policy}
+use Rattle.rules.specs.Failures.{by_kind}
 use Rattle.rot.specs.Step.{by_state}
 
 pub by_policy_p {ℓ ℓ'} : {A : Type ℓ} (P : A → Type ℓ') (p : FailurePolicy) {a b c : A} → P a → P b → P c → P (by_policy p a b c)

@@ -5,4 +5,5 @@ pub mod Bound
 pub mod Numbers
 pub mod Named
 pub mod Readings
-pub mod Idle
+pub mod Shape
+pub mod Parts

@@ -13,7 +13,7 @@ use Rattle.model.specs.declared.Event.TheVariants.{PowerGood}
 use Rattle.table.specs.Table.{table, rule_no}
 use Rattle.machine.specs.declared.ComponentStatus.{ComponentStatus}
 use Rattle.machine.specs.View.{Core}
-use Rattle.numbered.specs.Numbered.{numbered, numbered_by}
+use Rattle.rules.specs.Numbered.{numbered, numbered_by}
 use Rattle.rot.specs.Step.{rule}
 use Rattle.rot.specs.Whom.{whom}
 

@@ -18,17 +18,17 @@ use Rattle.model.specs.declared.ComponentId.{ComponentId}
 use Rattle.model.specs.declared.FailurePolicy.TheVariants.{Isolable}
 use Rattle.model.specs.declared.Effect.{Effect}
 use Rattle.model.specs.declared.Effect.TheVariants.{AssertReset, ReportIsolated, ReadFirmware, VerifyFirmware}
-use Rattle.chain.specs.Links.{parent, policy_at}
-use Rattle.cascade.specs.Cascade.{cascade}
-use Rattle.cascade.proofs.Below.{by-test, in-cons}
-use Rattle.cascade.proofs.Closed.{cascade-closed}
+use Rattle.components.specs.Links.{parent, policy_at}
+use Rattle.holds.specs.Cascade.{cascade}
+use Rattle.holds.proofs.Below.{by-test, in-cons}
+use Rattle.holds.proofs.Closed.{cascade-closed}
 use Rattle.machine.specs.declared.ComponentStatus.{ComponentStatus}
 use Rattle.machine.specs.Status.{status_at, iso, fresh, touch, retry_is}
 use Rattle.holds.specs.Holds.{isolate, gate, gate_says, gates, gates_say}
-use Rattle.advance.specs.Advance.{seek, verify_says, quiet_says, quiesced}
+use Rattle.holds.specs.Advance.{seek, verify_says, quiet_says, quiesced}
 use Rattle.machine.specs.View.{Core, Out, stay, statuses_are}
-use Rattle.corruption.specs.Corruption.{gate_then, corrupt, move_on}
-use Rattle.recovery.specs.Recovery.{start_over, exhausted, retry_at}
+use Rattle.rules.specs.Corruption.{gate_then, corrupt, move_on}
+use Rattle.rules.specs.Recovery.{start_over, exhausted, retry_at}
 use Rattle.rot.proofs.Weight.{gate-length, quiesced-iso}
 
 -- ---- the gate at one position

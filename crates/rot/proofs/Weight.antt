@@ -17,8 +17,8 @@ use Rattle.model.proofs.Pick.{pick_p}
 use Rattle.machine.specs.declared.ComponentStatus.{ComponentStatus}
 use Rattle.machine.specs.Status.{status_at, iso, touch}
 use Rattle.holds.specs.Holds.{isolate, gate, gate_says, gates, gates_say}
-use Rattle.advance.specs.Advance.{isolated_ahead, seek, verify_says, quiet_says, quiesced}
-use Rattle.cascade.proofs.Below.{by-test, Within}
+use Rattle.holds.specs.Advance.{isolated_ahead, seek, verify_says, quiet_says, quiesced}
+use Rattle.holds.proofs.Below.{by-test, Within}
 
 -- ---- Lengths: a gate keeps the number of statuses, and so does a list of gates.
 pub gate-length : (st : List ComponentStatus) (p : ℕ) → length (gate st p) ≡ length st

@@ -1,5 +1,4 @@
 -- The definitions that the contracts cite.
 pub mod Step
 pub mod Whom
-pub mod Idle
 pub mod Stepped

@@ -9,12 +9,12 @@ use Rattle.model.specs.declared.State.TheVariants.{PowerOnReset, PreSupervision,
 use Rattle.model.specs.declared.Event.{Event}
 use Rattle.model.specs.declared.Event.TheVariants.{PowerGood, VerificationPassed, VerificationFailed, ComponentReady, Booted, AttestationChallenge, UpdateRequest, UpdateVerified, UpdateRejected, BootConfirmed, CorruptionDetected, Restored, RecoveryUnavailable, RecoveryFailed, BootFailed, Timeout, CommitTimeout, EffectFailed}
 use Rattle.machine.specs.View.{Core, Out, stay}
-use Rattle.entry.specs.Entry.{enter_locked, enter_updating}
-use Rattle.updates.specs.Updates.{power, confirm, commit_timeout, attest, defer, update_verified, update_rejected}
-use Rattle.walks.specs.Walks.{pass, verify_failed, progress, component_ready}
-use Rattle.corruption.specs.Corruption.{corrupt, move_on, abortion}
-use Rattle.failures.specs.Failures.{timeout, boot_failed}
-use Rattle.recovery.specs.Recovery.{restored, unavailable}
+use Rattle.rules.specs.Entry.{enter_locked, enter_updating}
+use Rattle.rules.specs.Updates.{power, confirm, commit_timeout, attest, defer, update_verified, update_rejected}
+use Rattle.rules.specs.Walks.{pass, verify_failed, progress, component_ready}
+use Rattle.rules.specs.Corruption.{corrupt, move_on, abortion}
+use Rattle.rules.specs.Failures.{timeout, boot_failed}
+use Rattle.rules.specs.Recovery.{restored, unavailable}
 
 -- One of seven answers, by the state.
 abbrev pub by_state {ℓ} : {A : Type ℓ} → State → A → A → (Option ComponentId → A) → A → A → (ComponentId → A) → A → A

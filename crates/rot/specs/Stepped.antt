@@ -2,8 +2,8 @@
 use Rattle.std.specs.Prelude.{◌≡◌, ℕ, ◌+◌, ◌*◌, ◌≤◌, length}
 use Rattle.model.specs.declared.State.{State}
 use Rattle.model.specs.declared.Event.{Event}
-use Rattle.chain.specs.declared.Chain.{Chain}
-use Rattle.chain.specs.Tables.{entries, size}
+use Rattle.components.specs.declared.Chain.{Chain}
+use Rattle.components.specs.Tables.{entries, size}
 use Rattle.store.specs.Sink.{empty_sink, held}
 use Rattle.machine.specs.declared.Rot.{Rot}
 use Rattle.machine.specs.declared.Work.{Work}

@@ -6,7 +6,7 @@ use Rattle.model.specs.Vocabulary.{id_of}
 use Rattle.model.specs.declared.PowerOnResult.TheVariants.{Provisioned}
 use Rattle.model.specs.declared.Event.TheVariants.{PowerGood, VerificationPassed, VerificationFailed, Restored}
 use Rattle.components.specs.Chain.{position}
-use Rattle.advance.specs.Advance.{isolated_ahead, quiet_says}
+use Rattle.holds.specs.Advance.{isolated_ahead, quiet_says}
 use Rattle.rot.specs.Step.{step_of}
 use Rattle.settling.specs.declared.Reply.TheVariants.{Done}
 use Rattle.settling.specs.Settle.{turns, settle}

@@ -11,9 +11,9 @@ use borrow.Author.Tests.{leb-true}
 use native.Mathlib.Omega.{arith}
 use Rattle.text.specs.Text.{digits}
 use Rattle.components.specs.Chain.{position, first_from}
-use Rattle.cascade.specs.Cascade.{below, children_in, children_of, spread, cascade}
+use Rattle.holds.specs.Cascade.{below, children_in, children_of, spread, cascade}
 use Rattle.holds.specs.Holds.{gates, gates_say}
-use Rattle.advance.specs.Advance.{isolated_ahead, quiet_says}
+use Rattle.holds.specs.Advance.{isolated_ahead, quiet_says}
 use Rattle.rot.specs.Step.{step_of}
 use Rattle.settling.specs.Settle.{turns, settle}
 use Rattle.sm.specs.Calls.{begin_of, reply_of, start_of}

@@ -17,7 +17,7 @@ use Rattle.model.proofs.Pick.{pick_p}
 use Rattle.pending.specs.Queue.{has_room, latched, emits}
 use Rattle.machine.specs.View.{Core}
 use Rattle.rot.specs.Step.{step_of}
-use Rattle.shape.proofs.Shape.{Opens, step-opens}
+use Rattle.rot.proofs.Shape.{Opens, step-opens}
 use Rattle.settling.specs.Settle.{Model, left_is, latch, fail, enqueue, hand_out, turn_by, turn_of, taken_by, next_event, Run, noted, turned, turns, settle}
 use Rattle.settling.specs.View.{RestsBy, Rests}
 

@@ -1,4 +1,4 @@
--- The loop of `settle`: as many turns as it took give what the definition gives.
+-- The loop of `settle_in`: as many turns as it took give what the definition gives.
 use Rattle.std.specs.Prelude.{Option, None, Some}
 use Rattle.model.specs.declared.Effect.{Effect}
 use Prim.Native.Nat.{ℕ, zero, suc, ◌+◌, ◌≤◌}
@@ -6,33 +6,27 @@ use native.Mathlib.Numerals.{add-one}
 use native.Mathlib.Omega.{arith}
 use mathlib.Core.Path.{◌≡◌, refl, sym, ap, ◌∙◌}
 use mathlib.Core.List.{List, []}
-use lib.ListN.{length, length-drop, length-take}
+use lib.ListN.{length, length-drop}
 use Rattle.model.specs.declared.Component.{Component}
-use Rattle.chain.specs.Tables.{entries}
+use Rattle.components.specs.declared.Chain.{Chain}
+use Rattle.components.specs.Tables.{entries}
 use Rattle.store.specs.Sink.{held}
-use Rattle.settling.specs.declared.whole.Machine.{Machine}
+use Rattle.machine.specs.declared.Work.{Work}
+use Rattle.settling.specs.declared.Dispatch.{Dispatch}
 use Rattle.settling.specs.Settle.{Model, Run, turn_by, turn_of, turned, turns, settle}
-use Rattle.settling.specs.View.{view, chain_of, Becomes}
-use Rattle.settling.specs.Parts.{Rested}
+use Rattle.settling.specs.Parts.{together, Parts, Makes, Rested}
 use Rattle.settling.proofs.Ends.{turns_next, settle-turns}
-use Rattle.settling.proofs.Views.{view-waiting, view-few}
-
--- What n turns make of a machine.
-abbrev pub turning : Machine → ℕ → Model
-turning m n = (turns (chain_of m) m.max_retry n record { machine = view m; settled = [] }).machine
-
-pub turned_none : (m : Machine) → Becomes m (turning m 0) m
-unfolding turns
-turned_none m = record { machine = refl; chain = refl; max_retry = refl }
-
-pub turned_more : (m v r : Machine) (n : ℕ) → Becomes m (turning m n) v → Becomes v (turn_of (chain_of v) v.max_retry (view v)) r → Becomes m (turning m (n + 1)) r
-turned_more m v r n a b = record {
-  machine = b.machine ∙ (λ j. turn_of (entries (a.chain j)) (a.max_retry j) (a.machine j)) ∙ sym (ap (λ (k : Run). k.machine) (turns_next (chain_of m) m.max_retry n record { machine = view m; settled = [] })) ∙ ap (turning m) (sym (add-one n));
-  chain = b.chain ∙ a.chain;
-  max_retry = b.max_retry ∙ a.max_retry;
-}
+use Rattle.settling.proofs.Views.{held-short, makes-same}
 
 module _ (ch : List Component) (max : ℕ) where
+  -- What n turns make of a machine.
+  abbrev pub turning : Model → ℕ → Model
+  turning x n = (turns ch max n record { machine = x; settled = [] }).machine
+
+  -- One turn more.
+  turning-next : (x : Model) (n : ℕ) → turn_of ch max (turning x n) ≡ turning x (n + 1)
+  turning-next x n = sym (ap (λ (r : Run). r.machine) (turns_next ch max n record { machine = x; settled = [] })) ∙ ap (turning x) (sym (add-one n))
+
   -- Where a turn changes nothing, no number of turns does.
   fixed : (n : ℕ) (r : Run) → turn_of ch max r.machine ≡ r.machine → (turns ch max n r).machine ≡ r.machine
   unfolding turns
@@ -45,31 +39,38 @@ module _ (ch : List Component) (max : ℕ) where
   fixed_from (suc n) zero r h l = absurd (omega arith)
   fixed_from (suc n) (suc k) r h l = fixed_from n k (turned ch max r) h (omega arith)
 
--- At most 512 effects are left, so that 521 turns are enough.
-left-few : (m : Machine) → length (view m).left ≤ 512
-unfolding view held
-left-few m = omega (arith, m.room, length-drop m.dispatch.next (held m.work.sink), length-take m.work.sink.effects.len m.work.sink.effects.items)
+  -- At most 512 effects are left and 8 events queued, so that 521 turns are enough. While an effect waits, no number of turns
+  -- changes anything.
+  enough-by : (x : Model) → length x.left ≤ 512 → length x.queue ≤ 8 → (w : Option Effect) → x.waiting ≡ w → turning x 521 ≡ (settle ch max x).machine
+  unfolding settle
+  enough-by x l q None h = ap (λ (r : Run). r.machine) (settle-turns ch max x h q 521 (omega arith))
+  enough-by x l q (Some y) h =
+      let start : Run = record { machine = x; settled = [] } in
+      let still : turn_of ch max x ≡ x = ap (λ (u : Option Effect). turn_by ch max x u x.left x.queue) h in
+      fixed 521 start still ∙ sym (fixed (length x.left + 9) start still)
 
--- While an effect waits, no number of turns changes anything.
-enough-by : (m : Machine) (w : Option Effect) → m.dispatch.waiting ≡ w → turning m 521 ≡ (settle (chain_of m) m.max_retry (view m)).machine
-unfolding settle
-enough-by m None h = ap (λ (r : Run). r.machine) (settle-turns (chain_of m) m.max_retry (view m) (view-waiting m ∙ h) (view-few m) 521 (omega (arith, left-few m)))
-enough-by m (Some x) h =
-    let ch = chain_of m in
-    let max = m.max_retry in
-    let v = view m in
-    let start : Run = record { machine = v; settled = [] } in
-    let still : turn_of ch max v ≡ v = ap (λ (u : Option Effect). turn_by ch max v u v.left v.queue) (view-waiting m ∙ h) in
-    fixed ch max 521 start still ∙ sym (fixed ch max (length v.left + 9) start still)
+pub left-few : {c : Chain} {w : Work} {d : Dispatch} → Parts c w d → length (together c w d).left ≤ 512
+left-few {c} {w} {d} k = omega (arith, k.room, length-drop d.next (held w.sink), held-short w)
 
-pub turned-enough : (m : Machine) → turning m 521 ≡ (settle (chain_of m) m.max_retry (view m)).machine
-turned-enough m = enough-by m m.dispatch.waiting refl
+-- From the parts w and d, after n turns.
+module _ (c : Chain) (max : ℕ) (w : Work) (d : Dispatch) where
+  abbrev x : Model
+  x = together c w d
 
-pub turned-rested : (m v : Machine) (n : ℕ) → n ≤ 521 → Becomes m (turning m n) v → Rested v → Becomes m (settle (chain_of m) m.max_retry (view m)).machine v
-turned-rested m v n l b s =
-    let still : turn_of (chain_of m) m.max_retry (turning m n) ≡ turning m n = (λ j. turn_of (entries (sym b.chain j)) (sym b.max_retry j) (sym b.machine j)) ∙ s ∙ b.machine in
-    record {
-      machine = b.machine ∙ sym (fixed_from (chain_of m) m.max_retry n 521 record { machine = view m; settled = [] } still l) ∙ turned-enough m;
-      chain = b.chain;
-      max_retry = b.max_retry;
-    }
+  abbrev pub After : ℕ → Work → Dispatch → Type 0
+  After n s r = Makes c (turning (entries c) max x n) s r
+
+  pub after_none : Parts c w d → After 0 w d
+  unfolding turns
+  after_none k = makes-same k
+
+  pub after_more : (n : ℕ) (s v : Work) (r q : Dispatch) → After n s r → Makes c (turn_of (entries c) max (together c s r)) v q → After (n + 1) v q
+  after_more n s v r q a b = record { parts = b.parts; reads = b.reads ∙ ap (turn_of (entries c) max) a.reads ∙ turning-next (entries c) max x n }
+
+  pub after_all : Parts c w d → (s : Work) (r : Dispatch) → After 521 s r → Makes c (settle (entries c) max x).machine s r
+  after_all k s r a = record { parts = a.parts; reads = a.reads ∙ enough-by (entries c) max x (left-few k) k.few d.waiting refl }
+
+  pub after_rested : Parts c w d → (n : ℕ) → n ≤ 521 → (s : Work) (r : Dispatch) → After n s r → Rested s r → Makes c (settle (entries c) max x).machine s r
+  after_rested k n l s r a still =
+      let stays : turn_of (entries c) max (turning (entries c) max x n) ≡ turning (entries c) max x n = ap (turn_of (entries c) max) (sym a.reads) ∙ still c max ∙ a.reads in
+      after_all k s r record { parts = a.parts; reads = a.reads ∙ sym (fixed_from (entries c) max n 521 record { machine = x; settled = [] } stays l) }

@@ -3,7 +3,7 @@ use Rattle.std.specs.Prelude.{◌≡◌, Bool, false, List, [], ◌≤◌, lengt
 use Rattle.model.specs.declared.Component.{Component}
 use Rattle.model.specs.declared.Event.{Event}
 use Rattle.model.specs.declared.Effect.{Effect}
-use Rattle.chain.specs.Tables.{entries, size}
+use Rattle.components.specs.Tables.{entries, size}
 use Rattle.store.specs.Sink.{held}
 use Rattle.pending.specs.Queue.{events, emits}
 use Rattle.machine.specs.View.{Core, core_of}

@@ -1,14 +1,18 @@
 // Settling: the machine between and within calls, one turn of it, and turns up to the next effect or the end.
 #![tactic(auto)]
 
-ghost use Rattle.std.specs.Prelude.{◌≡◌, true, false, None, ℕ, ◌+◌, ◌<◌, drop};
-ghost use Rattle.pending.specs.Queue.{emits, rest};
-ghost use Rattle.settling.specs.Settle.{waiting_is, failed_is, latch, fail, enqueue, replied, hand_out, front_taken, turn_of, next_event, settle};
+ghost use Rattle.std.specs.Prelude.{◌≡◌, true, false, None, ℕ, ◌+◌, ◌<◌, ◌≤◌, drop, length};
+ghost use Rattle.store.specs.Sink.{held};
+ghost use Rattle.components.specs.Tables.{entries};
+ghost use Rattle.pending.specs.Queue.{emits};
+ghost use Rattle.settling.specs.Settle.{waiting_is, failed_is, latch, fail, enqueue, replied, hand_out, turn_of, settle};
 ghost use Rattle.settling.specs.View.{view, chain_of, Becomes};
-ghost use Rattle.settling.specs.Parts.{idle, Moves, Taken, Rested};
+ghost use Rattle.settling.specs.Parts.{idle, together, Moves, Taken, Parts, Makes, Rested};
 
 mod whole;
 
+use components::Chain;
+use machine::Work;
 use model::{Effect, Event};
 use pending::Pending;
 pub use whole::Machine;
@@ -46,149 +50,149 @@ impl Dispatch {
     }
 }
 
-// What follows are functions of a dispatch and no methods: each is named as its definition is. A dispatch goes with `len`, the
-// number of effects of its batch. That is the length of the sink: kept in the dispatch too, the two would have to be kept equal.
+// What follows are functions of a dispatch that is lent, and no methods: each is named as its definition is. A dispatch goes with
+// `len`, the number of effects of its batch. That is the length of the sink: kept in the dispatch too, the two would have to be
+// kept equal.
 
 // The first failure in a dispatch: of the batch of `len` effects nothing more is handed out.
-fn latch(mut d: Dispatch, len: usize) -> Dispatch
-    ensures { Moves len (λ es. latch) d result }
+fn latch(d: &mut Dispatch, len: usize)
+    ensures { Moves len (λ es. latch) d.old d.new }
 {
     d.next = len;
-    d.pending = d.pending.latch();
+    d.pending.latch();
     d.failed = true;
-    d
 }
 
 // A failed reply. Later failures in the dispatch only end their batch.
-fn fail(mut d: Dispatch, len: usize) -> Dispatch
-    ensures { Moves len (λ es. fail) d result }
+fn fail(d: &mut Dispatch, len: usize)
+    ensures { Moves len (λ es. fail) d.old d.new }
 {
     if d.failed {
         d.next = len;
-        return d;
+        return;
     }
-    latch(d, len)
+    latch(d, len);
 }
 
 // An event to the back of the queue. One that finds 8 queued is lost: that is the first failure, if there was none; after
 // one, the batch goes on.
-pub fn enqueue(mut d: Dispatch, len: usize, event: Event) -> Dispatch
-    ensures { Moves len (λ es. enqueue event) d result }
+pub fn enqueue(d: &mut Dispatch, len: usize, event: Event)
+    ensures { Moves len (λ es. enqueue event) d.old d.new }
 {
     if d.pending.count() < 8 {
-        d.pending = d.pending.push_back(event);
-        return d;
+        d.pending.push_back(event);
+        return;
     }
     if d.failed {
-        return d;
+        return;
     }
-    latch(d, len)
+    latch(d, len);
 }
 
 // The waiting effect is answered; it waits no more.
-#[tactic(auto, using(crate::proofs::Views::short_of))]
-pub fn replied(mut d: Dispatch, len: usize, reply: Reply) -> Dispatch
-    ensures { Moves len (λ es x. replied reply (waiting_is None x)) d result }
+pub fn replied(d: &mut Dispatch, len: usize, reply: Reply)
+    ensures { Moves len (λ es x. replied reply (waiting_is None x)) d.old d.new }
 {
     d.waiting = None;
     match reply {
-        Reply::Done => d,
+        Reply::Done => {}
         Reply::Then(event) => enqueue(d, len, event),
         Reply::Failed => fail(d, len),
     }
 }
 
 // The next effect of the batch: Emit's event is queued, any other effect is handed out.
-#[tactic(auto, using(crate::proofs::Views::short_of))]
-pub fn hand_out(mut d: Dispatch, len: usize, effect: Effect) -> Dispatch
-    requires { d.next < len }
-    ensures { Moves len (λ es x. hand_out effect (drop (d.next + 1) es) x (emits effect)) d result }
+fn hand_out(d: &mut Dispatch, len: usize, effect: Effect)
+    requires { d.old.next < len }
+    ensures { Moves len (λ es x. hand_out effect (drop (d.old.next + 1) es) x (emits effect)) d.old d.new }
 {
     d.next += 1;
     if let Some(event) = pending::emitted_event(effect) {
-        return enqueue(d, len, event);
+        enqueue(d, len, event);
+        return;
     }
     d.waiting = Some(effect);
-    d
+}
+
+// The next effect of a batch that has one more, while none waits.
+pub fn hand_next(w: &Work, d: &mut Dispatch)
+    requires { (d.old.waiting ≡ None) × (d.old.next < length (held w.now.sink)) × (w.now.sink.effects.len ≤ 512) }
+    ensures { (c : Chain) (max : ℕ) → Parts c w.now d.old → Makes c (turn_of (entries c) max (together c w.now d.old)) w.now d.new }
+{
+    let batch = w.sink.effects.as_slice();
+    let effect = batch[d.next];
+    hand_out(d, batch.len(), effect);
 }
 
 // The front event is taken from the queue; the batch of its effects is not begun.
-pub fn taken(mut d: Dispatch) -> Dispatch
-    ensures { Taken d result }
+fn taken(d: &mut Dispatch)
+    ensures { Taken d.old d.new }
 {
     d.next = 0;
-    d.pending = d.pending.pop_front();
-    d
+    d.pending.pop_front();
 }
 
 // The dispatch has ended, and it counts as failed no more.
-#[tactic(auto, using(crate::proofs::Views::short_of))]
-pub fn rested(mut d: Dispatch) -> Dispatch
-    ensures { (len : ℕ) → Moves len (λ es. failed_is false) d result }
+pub fn rested(d: &mut Dispatch)
+    ensures { (len : ℕ) → Moves len (λ es. failed_is false) d.old d.new }
 {
     d.failed = false;
-    d
 }
 
-// The front event is taken and settled: a step, whose effects are the batch.
-fn take_front(mut m: Machine, event: Event) -> Machine
-    ensures { Becomes m (front_taken (chain_of m) m.max_retry event (rest (view m).queue) (view m)) result }
+// One turn of a machine whose parts are lent, so that none is copied: nothing while an effect waits; else the next effect of
+// the batch; else the front event, which is settled; else the dispatch has ended. The step calls and a run have it in common.
+pub fn turn(chain: &Chain, max_retry: u8, w: &mut Work, d: &mut Dispatch)
+    requires { Parts chain.now w.old d.old }
+    ensures { Makes chain.now (turn_of (entries chain.now) max_retry (together chain.now w.old d.old)) w.new d.new }
 {
-    m.work = rot::step(m.chain, m.max_retry, m.work, event);
-    m.dispatch = taken(m.dispatch);
-    m
-}
-
-// The event that a turn would take.
-pub fn next_event(m: Machine) -> Option<Event>
-    ensures { result ≡ next_event (view m) }
-{
-    if m.dispatch.waiting.is_some() || m.dispatch.next < m.work.sink.effects.len {
-        return None;
+    if d.waiting.is_some() {
+        return;
     }
-    m.dispatch.pending.front()
-}
-
-// One turn: nothing while an effect waits; else the next effect of the batch; else the front event; else the dispatch has
-// ended, and it counts as failed no more.
-pub fn turn(mut m: Machine) -> Machine
-    ensures { Becomes m (turn_of (chain_of m) m.max_retry (view m)) result }
-{
-    if m.dispatch.waiting.is_some() {
-        return m;
+    if d.next < w.sink.effects.count() {
+        hand_next(w, d);
+        return;
     }
-    if m.dispatch.next < m.work.sink.effects.len {
-        let effect = m.work.sink.get(m.dispatch.next);
-        m.dispatch = hand_out(m.dispatch, m.work.sink.effects.len, effect);
-        return m;
+    if let Some(event) = d.pending.front() {
+        taken(d);
+        rot::step_in(chain, max_retry, w, event);
+        return;
     }
-    if let Some(event) = m.dispatch.pending.front() {
-        return take_front(m, event);
-    }
-    m.dispatch = rested(m.dispatch);
-    m
+    rested(d);
 }
 
 // Does a turn change nothing?
-fn at_rest(m: Machine) -> bool
-    ensures { result ≡ true → Rested m }
+fn at_rest(w: &Work, d: &Dispatch) -> bool
+    ensures { result ≡ true → Rested w.now d.now }
 {
-    m.dispatch.waiting.is_some()
-        || (m.work.sink.effects.len <= m.dispatch.next
-            && m.dispatch.pending.count() == 0
-            && !m.dispatch.failed)
+    d.waiting.is_some() || (w.sink.effects.len <= d.next && d.pending.count() == 0 && !d.failed)
 }
 
-// Turns up to the next effect or the end; none while an effect waits. There are at most 512 effects left, 8 events queued,
-// and one turn more: a count, since the definition counts turns too, and a `while` would have to be shown to end.
-pub fn settle(mut m: Machine) -> Machine
-    ensures { Becomes m (settle (chain_of m) m.max_retry (view m)).machine result }
+// Turns up to the next effect or the end, of parts that are lent; none while an effect waits. There are at most 512 effects
+// left, 8 events queued, and one turn more: a count, since the definition counts turns too, and a `while` would have to be
+// shown to end.
+pub fn settle_in(chain: &Chain, max_retry: u8, w: &mut Work, d: &mut Dispatch)
+    requires { Parts chain.now w.old d.old }
+    ensures { Makes chain.now (settle (entries chain.now) max_retry (together chain.now w.old d.old)).machine w.new d.new }
 {
     for _ in 0..521usize {
-        if at_rest(m) {
-            return m;
+        if at_rest(w, d) {
+            return;
         }
-        m = turn(m);
+        turn(chain, max_retry, w, d);
     }
-    m
+}
+
+// The same of a whole machine.
+pub fn settle(machine: Machine) -> Machine
+    ensures { Becomes machine (settle (chain_of machine) machine.max_retry (view machine)).machine result }
+{
+    let mut work = machine.work;
+    let mut dispatch = machine.dispatch;
+    settle_in(&machine.chain, machine.max_retry, &mut work, &mut dispatch);
+    Machine {
+        chain: machine.chain,
+        max_retry: machine.max_retry,
+        work,
+        dispatch,
+    }
 }

@@ -1,12 +1,12 @@
 // The machine of the step calls, within and between calls.
 
 ghost use Rattle.std.specs.Prelude.{◌≤◌, length};
-ghost use Rattle.chain.specs.Tables.{size, Accepted};
+ghost use Rattle.components.specs.Tables.{size, Accepted};
 ghost use Rattle.machine.specs.View.{Fit};
 ghost use Rattle.pending.specs.Queue.{events};
 
 use crate::Dispatch;
-use chain::Chain;
+use components::Chain;
 use machine::Work;
 
 // The effects of the batch are those in the sink of the work. What a dispatch keeps is a part by itself, so that what settles

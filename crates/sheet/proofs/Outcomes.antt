@@ -19,7 +19,8 @@ use Rattle.sm.specs.Calls.{start_of}
 use Rattle.sm.specs.Gives.{Fresh}
 use Rattle.reader.specs.declared.Sheet.{Sheet}
 use Rattle.reader.specs.declared.BadSheet.{BadSheet}
-use Rattle.reader.specs.Read.{rows_in, bad_line, cards_in, Whole, Bad}
+use Rattle.reader.specs.Read.{rows_in, bad_line, cards_in, no_lines, Whole, Bad}
+use Rattle.reader.proofs.Good.{retry-whole}
 use Rattle.reader.proofs.Kept.{kept-cards, kept-verdict}
 use Rattle.driver.specs.declared.End.{End}
 use Rattle.driver.specs.declared.RunError.{RunError}
@@ -59,7 +60,7 @@ module _ (s : List ℕ) where
   check-good h = ap (λ (b : Bool). pick b (judged (verdict_in s)) (nothing 1 (bad_line s) 0)) (eq-eqb (bad_line s) 0 h)
 
   -- Question 1 refuses the sheet.
-  module _ (b : BadSheet) (g : Bad s b) where
+  module _ {before after : Sheet} (b : BadSheet) (g : Bad s before b after) where
     bad-check : check_of s ≡ nothing 1 b.line 0
     bad-check = check-bad (λ z. omega (arith, g.some, g.line)) ∙ ap (λ (n : ℕ). nothing 1 n 0) (sym g.line)
 
@@ -69,7 +70,7 @@ module _ (s : List ℕ) where
     pub bad-number : (check_of s).number ≡ 0 → ⊥
     bad-number z = let one : ◌≡◌ {A = ℕ} 1 0 = sym (ap (λ (o : Outcome). o.number) bad-check) ∙ z in omega arith
 
-  module _ (r : Sheet) (w : Whole s r) where
+  module _ (r : Sheet) (w : Whole s no_lines r) where
     verdict-here : verdict_of r.list.len (entries_of r.list) ≡ verdict_in s
     verdict-here = ap (λ (l : ComponentList). verdict_of l.len (entries_of l)) w.list ∙ kept-verdict (cards_in s)
 
@@ -108,7 +109,7 @@ module _ (s : List ℕ) where
     unfolding progress_of start_point
     progress-here room limit m f =
         let chain = f.chain ∙ chain-here in
-        let retry = f.max_retry ∙ w.retry in
+        let retry = f.max_retry ∙ retry-whole s r w in
         let machine = f.machine ∙ ap start_of chain-here in
         λ j. run_from (record { chain = chain j; max_retry = retry j; limit = limit }) room record { machine = machine j; rows = rows_in s; line = 1; work = 0; settled = 0; told = 0; going = true; number = 0; place = 0 }
 

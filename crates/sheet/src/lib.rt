@@ -1,14 +1,14 @@
 // What the board calls: `check` and `run` of a sheet. The crate sheet_c offers the same two to C.
 #![tactic(auto)]
 
-ghost use Rattle.std.specs.Prelude.{◌≡◌, length};
+ghost use Rattle.std.specs.Prelude.{◌≡◌};
 ghost use Rattle.sheet.specs.declared.Refusal.TheVariants.{BadLine, Chain, Run};
-ghost use Rattle.sheet.specs.Sheet.{check_of, run_of, numbers_of, RunGives};
+ghost use Rattle.sheet.specs.Sheet.{check_of, numbers_of, RunGives};
 ghost use Rattle.sheet.specs.Refused.{told, Drives};
 
-use components::ChainError;
+use components::{Chain, ChainError};
 use driver::{End, RunError};
-use reader::BadSheet;
+use reader::{BadSheet, Sheet};
 use sm::CallError;
 
 // A number of the scope's questions or 0, its two places, bytes written, events settled: five numbers, as C reads them.
@@ -85,8 +85,9 @@ fn numbers(outcome: Result<(), Refusal>, written: u64, settled: u64) -> Answer
 fn judge(sheet: &[u8]) -> Result<(), Refusal>
     ensures { told result 0 0 ≡ numbers_of (check_of sheet.now) }
 {
-    let read = reader::read_sheet(sheet)?;
-    read.list.verdict()?;
+    let mut read = Sheet::new();
+    reader::read_sheet(sheet, &mut read)?;
+    Chain::of(&read.list).verdict()?;
     Ok(())
 }
 
@@ -94,8 +95,11 @@ fn judge(sheet: &[u8]) -> Result<(), Refusal>
 fn drive(sheet: &[u8], out: &mut [u8], limit: u64) -> Result<End, Refusal>
     ensures { Drives sheet.now out.old limit result out.new }
 {
-    let read = reader::read_sheet(sheet)?;
-    let machine = sm::new(read.list, read.max_retry)?;
+    let mut read = Sheet::new();
+    reader::read_sheet(sheet, &mut read)?;
+    let chain = Chain::of(&read.list);
+    chain.verdict()?;
+    let machine = sm::started(chain, read.max_retry);
     Ok(driver::drive(sheet, out, limit, machine))
 }
 

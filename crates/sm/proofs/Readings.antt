@@ -13,7 +13,7 @@ use Rattle.model.specs.declared.State.TheVariants.{Recovering, PreSupervision}
 use Rattle.model.specs.declared.Event.TheVariants.{RecoveryUnavailable, Restored, RecoveryFailed}
 use Rattle.model.specs.declared.Effect.TheVariants.{ReportRecoveryFailed, ReadFirmware, VerifyFirmware}
 use Rattle.machine.specs.Status.{fresh}
-use Rattle.advance.specs.Advance.{quiet_says, isolated_ahead}
+use Rattle.holds.specs.Advance.{quiet_says, isolated_ahead}
 use Rattle.rot.specs.Step.{step_of}
 use Rattle.settling.specs.declared.Reply.TheVariants.{Done, Then}
 use Rattle.settling.specs.Settle.{Model, turns, settle}

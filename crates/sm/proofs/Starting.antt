@@ -11,8 +11,8 @@ use Rattle.model.specs.declared.Component.{Component}
 use Rattle.components.specs.declared.ComponentList.{ComponentList}
 use Rattle.model.specs.declared.State.TheVariants.{PowerOnReset}
 use Rattle.components.proofs.Accepted.{accepted-sound}
-use Rattle.chain.specs.declared.Chain.{Chain}
-use Rattle.chain.specs.Tables.{entries, size, Accepted}
+use Rattle.components.specs.declared.Chain.{Chain}
+use Rattle.components.specs.Tables.{entries, size, Accepted}
 use Rattle.store.specs.Sink.{held}
 use Rattle.pending.specs.Queue.{events}
 use Rattle.machine.specs.declared.ComponentStatus.{ComponentStatus}

@@ -10,16 +10,17 @@ use Rattle.model.specs.Vocabulary.{pick}
 use Rattle.model.specs.declared.Event.{Event}
 use Rattle.model.specs.declared.Effect.{Effect}
 use Rattle.model.proofs.Pick.{pick_p}
-use Rattle.chain.specs.Tables.{entries}
-use Rattle.pending.specs.Queue.{has_room}
+use Rattle.store.specs.Sink.{held}
+use Rattle.pending.specs.Queue.{events, has_room}
+use Rattle.settling.specs.declared.Dispatch.{Dispatch}
 use Rattle.settling.specs.declared.whole.Machine.{Machine}
 use Rattle.settling.specs.declared.Reply.{Reply}
 use Rattle.settling.specs.declared.Reply.TheVariants.{Done, Then, Failed}
 use Rattle.settling.specs.Settle.{Model, Run, waiting_is, queue_is, enqueue, replied, settle}
-use Rattle.settling.specs.View.{view, chain_of, Becomes, Rests}
-use Rattle.settling.specs.Parts.{Moves}
+use Rattle.settling.specs.View.{view, chain_of, Rests}
+use Rattle.settling.specs.Parts.{together, Moves}
 use Rattle.settling.proofs.Ends.{Few, fail-few, enqueue-few, settle-ends}
-use Rattle.settling.proofs.Views.{Puts, becomes-as, moves-becomes, enqueue-room, view-waiting, none_waits}
+use Rattle.settling.proofs.Views.{held-short, enqueue-room, view-waiting, none_waits}
 use Rattle.sm.specs.declared.Called.{Called}
 use Rattle.sm.specs.declared.CallError.{CallError}
 use Rattle.sm.specs.Calls.{Expected, answered, refused, done_by, begin_of, reply_by, reply_of}
@@ -54,20 +55,18 @@ module _ (x : Model) where
   replied-few (Then e) h = enqueue-few e (waiting_is None x) h
   replied-few Failed h = fail-few (waiting_is None x) h
 
--- A call that settles: from the machine v, read as y, to the machine r.
-pub settles : (m v r : Machine) (y : Model) (e : Called) → Becomes m y v → y.waiting ≡ None → Few y → Becomes v (settle (chain_of v) v.max_retry (view v)).machine r → e ≡ reported r (Ok tt)
-    → CallGives m (answered (settle (chain_of m) m.max_retry y)) e
-settles m v r y e a h f b q =
+-- A call that settles: from parts that are read as y, to the machine r.
+pub settles : (m r : Machine) (x y : Model) (e : Called) → x ≡ y → y.waiting ≡ None → Few y → r.chain ≡ m.chain → r.max_retry ≡ m.max_retry → view r ≡ (settle (chain_of m) m.max_retry x).machine → e ≡ reported r (Ok tt) → CallGives m (answered (settle (chain_of m) m.max_retry y)) e
+settles m r x y e a h f chain max reads q =
     let run : Run = settle (chain_of m) m.max_retry y in
-    let same : view r ≡ run.machine = b.machine ∙ (λ j. (settle (entries (a.chain j)) (a.max_retry j) (a.machine j)).machine) in
+    let same : view r ≡ run.machine = reads ∙ ap (λ (z : Model). (settle (chain_of m) m.max_retry z).machine) a in
     let ends = settle-ends (chain_of m) m.max_retry y h f in
-    subst (CallGives m (answered run)) (sym q)
-    record {
+    subst (CallGives m (answered run)) (sym q) record {
       machine = same;
       number = refl;
-      effect = sym (view-waiting r) ∙ ap (λ (x : Model). x.waiting) same;
-      chain = b.chain ∙ a.chain;
-      max_retry = b.max_retry ∙ a.max_retry;
+      effect = sym (view-waiting r) ∙ ap (λ (z : Model). z.waiting) same;
+      chain = chain;
+      max_retry = max;
       kept = λ k. absurd (k refl);
       few = ends.1;
       valid = λ v. subst Rests (sym same) ends.0;
@@ -90,14 +89,15 @@ module _ (m : Machine) (e : Event) where
   begin-refused h = ap (λ (b : Bool). pick b (answered (settle (chain_of m) m.max_retry (queue_is (e ∷ []) (view m)))) (refused 10 (view m))) h
 
   -- The event stands alone in the queue.
-  pub begun : done ≡ true → (v : Machine) → Puts m v → Moves m.work.sink.effects.len (λ es. enqueue e) m.dispatch v.dispatch → Becomes m (queue_is (e ∷ []) (view m)) v
-  begun h v p b =
-      let none : (view m).queue ≡ [] = (done-both (view m).waiting (view m).queue h).1 in
-      becomes-as (moves-becomes m (λ (es : List Effect). enqueue e) v p b)
-      (enqueue-room e (view m) (omega (arith, ap (λ (q : List Event). length q) none)) ∙ ap (λ (q : List Event). queue_is (q ++ (e ∷ [])) (view m)) none)
+  pub begun : done ≡ true → (r : Dispatch) → Moves m.work.sink.effects.len (λ es. enqueue e) m.dispatch r → together m.chain m.work r ≡ queue_is (e ∷ []) (view m)
+  unfolding view
+  begun h r b =
+      let none = (done-both m.dispatch.waiting (events m.dispatch.pending) h).1 in
+      b.machine _ (held m.work.sink) (held-short m.work m.dispatch)
+      ∙ enqueue-room e (view m) (omega (arith, ap (λ (q : List Event). length q) none)) ∙ ap (λ (q : List Event). queue_is (q ++ (e ∷ [])) (view m)) none
 
-  pub begun-idle : done ≡ true → m.dispatch.waiting ≡ None
-  begun-idle h = sym (view-waiting m) ∙ (done-both (view m).waiting (view m).queue h).0
+  pub begun-idle : done ≡ true → (view m).waiting ≡ None
+  begun-idle h = (done-both (view m).waiting (view m).queue h).0
 
 -- By what waits a reply is refused or taken.
 module _ (m : Machine) (a : Reply) where

@@ -5,11 +5,11 @@ use mathlib.Core.Path.{◌≡◌, refl, sym, ap, ◌∙◌}
 use mathlib.Core.Bool.{Bool, true, false}
 use mathlib.Core.List.{List, [], ◌∷◌, ◌++◌, map}
 use lib.ListN.{length, take, replicate, take-append-drop, length-take}
-use Rattle.isolated.specs.Flags.{flags, trues}
+use Rattle.store.specs.Flags.{flags, trues}
 use Rattle.store.specs.declared.Status.{Status}
 use Rattle.machine.specs.Status.{iso}
 use Rattle.machine.specs.View.{joined, statuses_of}
-use Rattle.chain.specs.Tables.{size}
+use Rattle.components.specs.Tables.{size}
 use Rattle.settling.specs.declared.whole.Machine.{Machine}
 use Rattle.settling.specs.View.{view}
 use Rattle.sm.specs.Isolation.{isolation}

@@ -1,5 +1,5 @@
 -- What the contracts of new, begin and reply say.
-use Rattle.std.specs.Prelude.{◌≡◌, false, ℕ, ◌≤◌, length, None, Result, Ok, Err}
+use Rattle.std.specs.Prelude.{◌≡◌, ℕ, ◌≤◌, length, Result, Ok, Err}
 use Rattle.components.specs.Chain.{entries_of, verdict_of, no_refusal}
 use Rattle.model.specs.declared.State.{State}
 use Rattle.store.specs.Sink.{empty_sink}

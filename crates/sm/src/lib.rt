@@ -4,15 +4,15 @@
 
 ghost use Rattle.std.specs.Prelude.{◌≡◌, map, length, Err};
 ghost use Rattle.components.specs.Chain.{entries_of, verdict_of};
-ghost use Rattle.isolated.specs.Flags.{flags_of, flags, trues};
+ghost use Rattle.store.specs.Flags.{flags_of, flags, trues};
 ghost use Rattle.machine.specs.Status.{status_at, iso};
+ghost use Rattle.pending.specs.Queue.{events};
 ghost use Rattle.settling.specs.View.{view, chain_of};
 ghost use Rattle.sm.specs.Calls.{done_by, begin_of, reply_of};
 ghost use Rattle.sm.specs.Isolation.{isolation};
-ghost use Rattle.sm.specs.Gives.{untouched, Fresh, NewGives, CallGives, reported, number_of};
+ghost use Rattle.sm.specs.Gives.{Fresh, NewGives, CallGives, reported, number_of};
 
-use chain::Chain;
-use components::{ChainError, ComponentList};
+use components::{Chain, ChainError, ComponentList};
 use machine::{ComponentStatus, Rot, Work};
 use model::{Effect, Event, State};
 use settling::{Dispatch, Machine, Reply};
@@ -57,26 +57,22 @@ impl Called {
     }
 }
 
-// No component was touched, and no effect given, in this state.
-fn at_work(state: State) -> Work
-    ensures { result ≡ untouched state }
+// The machine of an accepted chain, at power-on. Whoever has a chain that it asked itself makes the machine here: by `new` it would
+// be copied once more.
+pub fn started(chain: Chain, max_retry: u8) -> Machine
+    requires { verdict_of chain.list.len (entries_of chain.list) ≡ (Ok tt) }
+    ensures { Fresh chain.list max_retry result }
 {
-    Work {
-        state,
-        rot: Rot::new(),
-        sink: Sink::new(),
-    }
-}
-
-// The machine of an accepted list, at power-on.
-fn started(list: ComponentList, max_retry: u8) -> Machine
-    requires { verdict_of list.len (entries_of list) ≡ (Ok tt) }
-    ensures { Fresh list max_retry result }
-{
+    let rot = Rot::new();
+    let sink = Sink::new();
     Machine {
-        chain: Chain::of(list),
+        chain,
         max_retry,
-        work: at_work(State::PowerOnReset),
+        work: Work {
+            state: State::PowerOnReset,
+            rot,
+            sink,
+        },
         dispatch: Dispatch::new(),
     }
 }
@@ -85,20 +81,21 @@ fn started(list: ComponentList, max_retry: u8) -> Machine
 pub fn new(list: ComponentList, max_retry: u8) -> Result<Machine, ChainError>
     ensures { NewGives list max_retry result }
 {
-    list.verdict()?;
-    Ok(started(list, max_retry))
+    let chain = Chain::of(&list);
+    chain.verdict()?;
+    Ok(started(chain, max_retry))
 }
 
 // Is the earlier event done, with no effect waiting and the queue empty?
-#[tactic(auto, using(crate::proofs::Stepping::done_empty, crate::proofs::Stepping::done_queued), unfolding(settling::specs::View::view))]
-fn is_done(m: Machine) -> bool
-    ensures { result ≡ done_by (view m).waiting (view m).queue }
+#[tactic(auto, using(crate::proofs::Stepping::done_empty, crate::proofs::Stepping::done_queued))]
+fn is_done(d: &Dispatch) -> bool
+    ensures { result ≡ done_by d.now.waiting (events d.now.pending) }
 {
-    m.dispatch.pending.count() == 0 && m.dispatch.waiting.is_none()
+    d.pending.count() == 0 && d.waiting.is_none()
 }
 
-// What a call answers, and the effect that waits now.
-fn report(machine: Machine, answer: Result<(), CallError>) -> Called
+// What a call reports of the machine that it gives back.
+fn reported(machine: Machine, answer: Result<(), CallError>) -> Called
     ensures { result ≡ reported machine answer }
 {
     Called {
@@ -108,26 +105,47 @@ fn report(machine: Machine, answer: Result<(), CallError>) -> Called
     }
 }
 
+// Both calls settle the work where it lies in the machine that they give back, so that a machine is copied only as it comes in and
+// goes out. Two fields of a struct cannot be lent at once: the dispatch, which is small, is taken out and put back.
+
 // Begins an event, and settles up to the next effect or the end.
-pub fn begin(mut machine: Machine, event: Event) -> Called
+pub fn begin(machine: Machine, event: Event) -> Called
     ensures { CallGives machine (begin_of (chain_of machine) machine.max_retry (view machine) event) result }
 {
-    if !is_done(machine) {
-        return report(machine, Err(CallError::NotDone));
+    if !is_done(&machine.dispatch) {
+        return reported(machine, Err(CallError::NotDone));
     }
-    machine.dispatch = settling::enqueue(machine.dispatch, machine.work.sink.effects.len, event);
-    report(settling::settle(machine), Ok(()))
+    let mut m = machine;
+    let mut dispatch = machine.dispatch;
+    settling::enqueue(&mut dispatch, machine.work.sink.effects.len, event);
+    settling::settle_in(
+        &machine.chain,
+        machine.max_retry,
+        &mut m.work,
+        &mut dispatch,
+    );
+    m.dispatch = dispatch;
+    reported(m, Ok(()))
 }
 
 // Answers the effect that waits, and settles up to the next effect or the end.
-pub fn reply(mut machine: Machine, reply: Reply) -> Called
+pub fn reply(machine: Machine, reply: Reply) -> Called
     ensures { CallGives machine (reply_of (chain_of machine) machine.max_retry (view machine) reply) result }
 {
     if machine.dispatch.waiting.is_none() {
-        return report(machine, Err(CallError::NothingWaits));
+        return reported(machine, Err(CallError::NothingWaits));
     }
-    machine.dispatch = settling::replied(machine.dispatch, machine.work.sink.effects.len, reply);
-    report(settling::settle(machine), Ok(()))
+    let mut m = machine;
+    let mut dispatch = machine.dispatch;
+    settling::replied(&mut dispatch, machine.work.sink.effects.len, reply);
+    settling::settle_in(
+        &machine.chain,
+        machine.max_retry,
+        &mut m.work,
+        &mut dispatch,
+    );
+    m.dispatch = dispatch;
+    reported(m, Ok(()))
 }
 
 // ---- what users read of a machine
@@ -143,7 +161,7 @@ pub fn state(m: Machine) -> State
 pub fn count(m: Machine) -> usize
     ensures { result ≡ length (chain_of m) }
 {
-    m.chain.count()
+    m.chain.count
 }
 
 // The status at position p; past the chain that of a new component.
@@ -151,7 +169,7 @@ pub fn count(m: Machine) -> usize
 pub fn status(m: Machine, p: usize) -> ComponentStatus
     ensures { result ≡ status_at (view m).core.statuses p }
 {
-    machine::status_at(m.work.rot, m.chain.count(), p)
+    machine::status_at(&m.work.rot, m.chain.count, p)
 }
 
 // The effect that waits for its reply.

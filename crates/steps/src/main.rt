@@ -18,12 +18,10 @@
 #![tactic(auto)]
 
 ghost use Rattle.std.specs.Prelude.{◌≡◌, false, ◌-◌, ◌≤◌, ◌<◌, drop, replicate};
-ghost use Rattle.isolated.specs.Flags.{flags};
+ghost use Rattle.store.specs.Flags.{flags};
 ghost use Rattle.machine.specs.View.{Fit};
 
-use chain::Chain;
-use components::{Answer, ComponentList};
-use isolated::Isolated;
+use components::{Answer, Chain, ComponentList};
 use machine::{ComponentStatus, Rot, Work};
 use model::{BootFailureKind, Component, ComponentId, Effect, Event, PowerOnResult, State};
 use pending::Pending;
@@ -33,7 +31,7 @@ use std::alloc::AllocError;
 use std::fmt::Write;
 use std::io;
 use std::io::{Read, Stdout};
-use store::{Sink, Status};
+use store::{Isolated, Sink, Status};
 
 // ---- from numbers: `From<u64> for X` may stand only in the crate of X, where numbers that only the comparisons use do not
 // belong.
@@ -215,7 +213,7 @@ fn id_number(id: ComponentId) -> u64 {
 
 // The numbers of a machine: state, its component or 256, cursor, window.
 fn machine_numbers(state: State, rot: &Rot) -> [u64; 4] {
-    let id = walks::waits_in(state).or(recovery::recovers_in(state));
+    let id = rules::waits_in(state).or(rules::recovers_in(state));
     [
         table::state_no(state) as u64,
         id.map_or(256, id_number),
@@ -281,7 +279,7 @@ fn put_answer(out: &mut String, a: Answer) -> Result<(), AllocError> {
 fn put_work(out: &mut String, w: &Work, n: usize) -> Result<(), AllocError> {
     put(out, &machine_numbers(w.state, &w.rot))?;
     for p in 0..n {
-        put(out, &status_numbers(machine::status_at(w.rot, n, p)))?;
+        put(out, &status_numbers(machine::status_at(&w.rot, n, p)))?;
     }
     let effects = w.sink.effects.as_slice();
     put(out, &[effects.len() as u64])?;
@@ -321,8 +319,8 @@ fn answer_case(out: &mut String, part: Part) -> Result<(), AllocError> {
     let Ok(()) = verdict else {
         return put_answer(out, Answer::from(verdict));
     };
-    let chain = Chain::of(list);
-    let n = chain.count();
+    let chain = Chain::of(&list);
+    let n = chain.count;
     let machine = part.after(2 + 5 * n);
     let event = machine.after(4 + 4 * n);
     let before = Work {
@@ -345,7 +343,7 @@ fn called(machine: Machine) -> Called {
 
 // The machine at hand in another situation: a comparison starts here where no history leads.
 fn set_up(part: Part, m: Machine) -> Machine {
-    let n = m.chain.count();
+    let n = m.chain.count;
     let rot = machine_of(part.after(2), n);
     Machine {
         chain: m.chain,
@@ -368,7 +366,7 @@ fn planted(part: Part, failed_before: bool, latched: Pending) -> Pending {
     }
     let mut queue = Pending::new();
     for k in 0..up_to(part.number(0), 8) {
-        queue = queue.push_back(event_of(part.after(1 + 4 * k)));
+        queue.push_back(event_of(part.after(1 + 4 * k)));
     }
     behind(queue, latched)
 }
@@ -377,7 +375,7 @@ fn planted(part: Part, failed_before: bool, latched: Pending) -> Pending {
 fn behind(first: Pending, second: Pending) -> Pending {
     let mut queue = first;
     for event in second.entries.as_slice().iter().skip(1) {
-        queue = queue.push_back(*event);
+        queue.push_back(*event);
     }
     queue
 }
@@ -385,10 +383,15 @@ fn behind(first: Pending, second: Pending) -> Pending {
 // The waiting effect failed. EffectFailed gives way to the events of the line, so that the machine need not lock: a
 // comparison sees here what is queued, lost and handed out after a failure.
 fn fail_planted(part: Part, m: Machine) -> Machine {
-    let mut v = m;
-    v.dispatch = settling::replied(m.dispatch, m.work.sink.effects.len, Reply::Failed);
-    v.dispatch.pending = planted(part, m.dispatch.failed, v.dispatch.pending);
-    settling::settle(v)
+    let mut dispatch = m.dispatch;
+    settling::replied(&mut dispatch, m.work.sink.effects.len, Reply::Failed);
+    dispatch.pending = planted(part, m.dispatch.failed, dispatch.pending);
+    settling::settle(Machine {
+        chain: m.chain,
+        max_retry: m.max_retry,
+        work: m.work,
+        dispatch,
+    })
 }
 
 // A failed reply whose failure is planted. Where no effect waits it is refused as any reply is.

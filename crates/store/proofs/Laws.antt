@@ -1,16 +1,13 @@
 -- What crates above may cite of a sink.
-use Prim.Native.Nat.{ℕ, ◌+◌, ◌<◌, ◌≤◌}
-use native.Mathlib.Omega.{arith}
-use mathlib.Core.Path.{◌≡◌, sym, ap}
+use Prim.Native.Nat.{ℕ, ◌+◌, ◌<◌}
+use mathlib.Core.Path.{◌≡◌, ap}
 use mathlib.Core.List.{[], ◌∷◌, ◌++◌}
-use lib.ListN.{length, take, get_or}
-use lib.Seq.{length-take-le, get_or-take}
+use lib.ListN.{length, take}
 use Rattle.model.specs.declared.Effect.{Effect}
-use Rattle.model.specs.declared.Effect.TheVariants.{LatchLockdown}
 use Rattle.bounded.specs.declared.Bounded.{Bounded}
 use Rattle.bounded.proofs.Laws.{with-room, one-more, same-array}
 use Rattle.store.specs.declared.Sink.{Sink}
-use Rattle.store.specs.Sink.{held, with_effect, effect_at}
+use Rattle.store.specs.Sink.{held, with_effect}
 
 -- A sink of length 0 holds nothing.
 pub none-held : (s : Sink) → s.effects.len ≡ 0 → held s ≡ []
@@ -31,14 +28,3 @@ module _ (s : Sink) (e : Effect) where
   pub with-slots : length (with_effect s e).effects.items ≡ length s.effects.items
   unfolding with_effect
   with-slots = same-array s.effects e
-
-module _ (s : Sink) where
-  -- As many effects are held as the length says.
-  pub held-length : length s.effects.items ≡ 512 → s.effects.len ≤ 512 → length (held s) ≡ s.effects.len
-  unfolding held
-  held-length f h = length-take-le s.effects.len s.effects.items (omega arith)
-
-  -- At a place below the length stands the effect held there.
-  pub at_held : (i : ℕ) → i < s.effects.len → effect_at s i ≡ get_or (held s) i LatchLockdown
-  unfolding held
-  at_held i h = sym (get_or-take s.effects.len s.effects.items i LatchLockdown h)

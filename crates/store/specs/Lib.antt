@@ -2,3 +2,4 @@
 pub mod Sink
 pub mod Stored
 pub mod Retry
+pub mod Flags

@@ -12,4 +12,4 @@ flag-decimal true n e = ap decimal e
 flag-decimal false n e = ap decimal e
 
 pub returns : goal.returns
-returns c = subst (λ (s : List ℕ). Pushed c.args.l (9 ∷ s) c.push_number.result) (flag-decimal c.args.on c.from.result c.from.ensures) c.push_number.ensures
+returns c = subst (λ (s : List ℕ). Pushed c.args.l.now (9 ∷ s) c.push_number.new.l) (flag-decimal c.args.on c.from.result c.from.ensures) c.push_number.ensures

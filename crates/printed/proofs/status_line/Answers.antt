@@ -12,7 +12,7 @@ unfolding status_line status_text
 returns c =
     let a = c.args in
     let s = a.status in
-    let named = begun _ c.empty.ensures (chained c.push.ensures (widened a.id.0 c.push_number-named.ensures c.from.ensures)) in
-    let counted = grown (grown named c.push_lifecycle.ensures) (widened s.retry c.push_number-counted.ensures c.from-2.ensures) in
-    exactly _ (grown (grown (grown counted c.push_flag.ensures) c.push_flag-flagged.ensures) c.push-2.ensures) (simp append_assoc)
+    let named = begun _ c.clear.ensures (chained c.push.ensures (widened a.id.0 c.push_number.ensures c.from.ensures)) in
+    let counted = grown (grown named c.push_lifecycle.ensures) (widened s.retry c.push_number-2.ensures c.from-2.ensures) in
+    exactly _ (grown (grown (grown counted c.push_flag.ensures) c.push_flag-2.ensures) c.push-2.ensures) (simp append_assoc)
     (simp length-append (omega (arith, decimal-short a.id.0, decimal-short s.retry, lifecycle-short s.lifecycle, flag-short s.awaiting_boot, flag-short s.released)))

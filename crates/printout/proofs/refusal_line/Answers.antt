@@ -7,7 +7,7 @@ use Rattle.printout.proofs.refusal_line.Goals as goal
 pub returns : goal.returns
 unfolding refusal_line
 returns c =
-    let lettered = begun _ c.empty.ensures c.push.ensures in
-    let numbered = grown lettered c.push_number-numbered.ensures in
-    let placed = grown (grown numbered c.push_number.ensures) c.push_number-2.ensures in
+    let lettered = begun _ c.clear.ensures c.push.ensures in
+    let numbered = grown lettered c.push_number.ensures in
+    let placed = grown (grown numbered c.push_number-2.ensures) c.push_number-3.ensures in
     rejoined _ (grown placed c.push-2.ensures) (simp append_assoc)

@@ -16,7 +16,7 @@ answered c =
 pub returns-then-answer-ne0 : goal.returns-then-answer-ne0
 returns-then-answer-ne0 c =
     let j = (goal.at.returns-then-answer-ne0 c).Joined-input-le65536 in
-    refused _ _ j.if-input-le65536.answer (answered j) c.if-answer-ne0.true c.refusal_line.result _ c.refusal_line.ensures c.lengthen.ensures
+    refused _ _ j.if-input-le65536.answer (answered j) c.if-answer-ne0.true c.refusal_line.new.l _ c.refusal_line.ensures c.lengthen.ensures
 
 pub returns-else-answer-ne0 : goal.returns-else-answer-ne0
 returns-else-answer-ne0 c =

@@ -9,7 +9,19 @@ use Rattle.std.proofs.lemmas.List.{take_rest}
 use Rattle.fields.specs.Fields.{place_of}
 use Rattle.fields.proofs.Scan.{place-bound}
 use Rattle.reader.proofs.Rows.{reads-line, reads-open}
+use Rattle.reader.proofs.Told.{reads-first, first-rest}
 use Rattle.reader.proofs.next_line.Goals as goal
+
+pub overflow_sub-result : goal.overflow_sub-result
+overflow_sub-result c =
+    let s = c.args.sheet.now in
+    first-rest s c.args.at _ (take_rest s c.args.at) _ _ c.in-Some.ensures
+
+pub returns-in-Some : goal.returns-in-Some
+returns-in-Some c =
+    let s = c.args.sheet.now in
+    let at = c.args.at in
+    reads-first s at (omega arith) _ (take_rest s at) _ _ c.in-Some.ensures
 
 pub returns-then-n-m : goal.returns-then-n-m
 returns-then-n-m c =

@@ -10,6 +10,6 @@ use Rattle.settling.proofs.enqueue.Goals as goal
 
 pub returns : goal.returns
 returns c =
-    let d = c.args.d in
+    let d = c.args.d.now in
     let full : 8 ≤ length (events d.pending) = omega arith in
     moves-as c.latch.ensures (λ k es. sym (enqueue-first c.args.event (within k es d) full c.if-d.false))

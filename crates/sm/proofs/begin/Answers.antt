@@ -1,8 +1,7 @@
 -- `begin` meets its contract: the event stands alone in the queue and is settled, or the call is refused.
-use Rattle.std.proofs.Common.{[], ◌∷◌, refl, sym, ◌∙◌, subst, arith}
+use Rattle.std.proofs.Common.{[], ◌∷◌, sym, ◌∙◌, refl, subst, arith}
 use Rattle.settling.specs.Settle.{queue_is}
 use Rattle.settling.specs.View.{view}
-use Rattle.settling.proofs.Views.{view-waiting}
 use Rattle.sm.specs.declared.CallError.TheVariants.{NotDone}
 use Rattle.sm.specs.Calls.{Expected}
 use Rattle.sm.specs.Gives.{CallGives}
@@ -10,16 +9,17 @@ use Rattle.sm.proofs.Stepping.{begun, begun-idle, begin-done, begin-refused, set
 use Rattle.sm.proofs.begin.Goals as goal
 
 pub returns-then-not-is_done : goal.returns-then-not-is_done
+unfolding view
 returns-then-not-is_done c =
     let m = c.args.machine in
     let d = sym c.is_done.ensures ∙ c.if-not-is_done.true in
-    subst (λ (x : Expected). CallGives m x c.report.result) (sym (begin-refused m c.args.event d)) (refuses m NotDone c.report.result c.report.ensures)
+    subst (λ (x : Expected). CallGives m x c.reported.result) (sym (begin-refused m c.args.event d)) (refuses m NotDone c.reported.result c.reported.ensures)
 
 pub returns : goal.returns
+unfolding view
 returns c =
     let m = c.args.machine in
     let e = c.args.event in
     let d = sym c.is_done.ensures ∙ c.if-not-is_done.false in
-    let q = c.enqueue-machine in
-    subst (λ (x : Expected). CallGives m x c.report-2.result) (sym (begin-done m e d))
-    (settles m _ c.settle.result (queue_is (e ∷ []) (view m)) c.report-2.result (begun m e d _ ((refl, refl), refl) q.ensures) (view-waiting m ∙ begun-idle m e d) (omega arith) c.settle.ensures c.report-2.ensures)
+    subst (λ (x : Expected). CallGives m x c.reported-2.result) (sym (begin-done m e d))
+    (settles m _ _ (queue_is (e ∷ []) (view m)) c.reported-2.result (begun m e d _ c.enqueue.ensures) (begun-idle m e d) (omega arith) refl refl c.settle_in.ensures.reads c.reported-2.ensures)

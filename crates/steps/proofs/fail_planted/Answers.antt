@@ -4,9 +4,9 @@ use Rattle.model.proofs.Arrays.{unmap}
 use Rattle.pending.proofs.Laws.{events-length}
 use Rattle.steps.proofs.fail_planted.Goals as goal
 
-pub invariant_of-v : goal.invariant_of-v
-invariant_of-v c =
-    let q = c.planted-v.result in
+pub invariant_of-settle : goal.invariant_of-settle
+invariant_of-settle c =
+    let q = c.planted-dispatch.result in
     let full : length q.entries.items ≡ 8 = search (rules, unmap) in
     record {
       accepted = c.args.m.accepted;

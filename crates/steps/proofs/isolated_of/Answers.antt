@@ -1,7 +1,7 @@
 -- Nothing is isolated in a new set, so nothing past the chain is.
 use Rattle.std.proofs.Common.{rules, ap, ◌∙◌, drop}
-use Rattle.isolated.specs.declared.Isolated.{Isolated}
-use Rattle.isolated.specs.Flags.{flags}
+use Rattle.store.specs.declared.Isolated.{Isolated}
+use Rattle.store.specs.Flags.{flags}
 use Rattle.machine.proofs.New.{new-fits}
 use Rattle.steps.proofs.isolated_of.Goals as goal
 

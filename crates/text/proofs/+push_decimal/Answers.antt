@@ -4,16 +4,16 @@ use Rattle.text.specs.Lines.{Pushed}
 use Rattle.text.proofs.Laws.{chained}
 use Rattle.text.proofs.Decimal.{one-digit, more-digits}
 use Rattle.text.proofs.+push_decimal.Goals as goal
-use Rattle.text.proofs.+push_decimal.Goals.{then-n-lt10, else-n-lt10}
+use Rattle.text.proofs.+push_decimal.Goals.{then-n-ge10, else-n-ge10}
 
 pub returns : goal.returns
 returns t c =
     let n = c.args.n in
+    let l = c.args.l.now in
     let fits : n < 2 ^ 64 = search rules in
-    elim c.if-n-lt10.branch [
-      | then-n-lt10 w ↦
-          subst (λ (s : List ℕ). Pushed c.args.l s c.push.result) (one-digit n (omega arith)) (rw w.front-is at c.push.ensures)
-      | else-n-lt10 w ↦
-          subst (λ (s : List ℕ). Pushed c.args.l s c.push.result) (more-digits n (omega arith) fits)
-          (chained w.push_decimal-front.ensures (rw w.front-is at c.push.ensures))
+    elim c.if-n-ge10.branch [
+      | then-n-ge10 w ↦
+          subst (λ (s : List ℕ). Pushed l s c.push.new.l) (more-digits n (omega arith) fits)
+          (chained w.push_decimal.ensures (rw w.l-is at c.push.ensures))
+      | else-n-ge10 w ↦ subst (λ (s : List ℕ). Pushed l s c.push.new.l) (one-digit n (omega arith)) (rw w.l-is at c.push.ensures)
     ]

@@ -10,17 +10,17 @@ pub returns-in_err-end : goal.returns-in_err-end
 returns-in_err-end c =
     let a = c.args in
     let small : length a.out.now < 18446744073709551616 = omega arith in
-    rw c.from_residual.ensures (unfitted a.out.now a.at (text_of a.l) (omega (arith, c.in_err-end.ensures)))
+    rw c.from_residual.ensures (unfitted a.out.now a.at (text_of a.l.now) (omega (arith, c.in_err-end.ensures)))
 
 pub returns-then-out-end : goal.returns-then-out-end
 returns-then-out-end c =
     let a = c.args in
-    unfitted a.out.now a.at (text_of a.l) (omega (arith, c.in_ok-end.ensures))
+    unfitted a.out.now a.at (text_of a.l.now) (omega (arith, c.in_ok-end.ensures))
 
 pub returns : goal.returns
 returns c =
     let a = c.args in
-    let s = text_of a.l in
+    let s = text_of a.l.now in
     let sized : c.size-n.result ≡ length s = c.size-n.ensures in
     let whole : take (length s) s ≡ s = take_all (length s) s (omega arith) in
     let copied : c.copy_from_slice.new.self ≡ s = c.copy_from_slice.ensures.after ∙ c.bytes.ensures in

@@ -7,4 +7,4 @@ use Rattle.text.proofs.push.Goals as goal
 
 pub returns : goal.returns
 unfolding held
-returns c = record { text = ap items_of c.push.ensures.0 ∙ first-of-more c.args.l.bytes c.args.b c.push.ensures.1 }
+returns c = record { text = ap items_of c.push.ensures.0 ∙ first-of-more c.args.l.now.bytes c.args.b c.push.ensures.1 }

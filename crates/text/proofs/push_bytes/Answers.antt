@@ -8,12 +8,12 @@ use Rattle.text.proofs.push_bytes.Goals as goal
 
 pub returns : goal.returns
 returns c =
-    let l = c.args.l in
+    let l = c.args.l.now in
     let s = c.args.s.now in
-    let at = c.size-at.result in
+    let at = c.count-at.result in
     let n = c.min-n.result in
     let full : length l.bytes.items ≡ 64 = search rules in
-    let sized : at ≡ length (text_of l) = c.size-at.ensures in
+    let sized : at ≡ length (text_of l) = c.count-at.ensures.0 in
     let short : length (text_of l) ≤ 64 = omega (arith, items-length l.bytes full) in
     let copied = c.copy_from_slice.ensures in
     record {

@@ -5,4 +5,4 @@ use Rattle.pending.proofs.Pending.push_back.Goals as goal
 
 pub returns : goal.returns
 unfolding events
-returns c = rw c.push.ensures.0 (by-room c.args.self.entries c.args.event c.push.ensures.1)
+returns c = rw c.push.ensures.0 (by-room c.args.self.now.entries c.args.event c.push.ensures.1)

@@ -1,3 +1,0 @@
--- The definitions that the contracts cite.
-pub mod Corruption
-pub mod Cases

@@ -1,2 +1,0 @@
--- What the contracts of `isolated` cite.
-pub mod Flags

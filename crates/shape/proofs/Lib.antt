@@ -1,2 +1,0 @@
--- Modules of proofs that belong to no one function.
-pub mod Shape
