@@ -2,34 +2,36 @@
 // Every effect is printed as it is handed out, and the state when its event is done.
 #![tactic(auto)]
 
+ghost use Rattle.settling.specs.View.{Valid};
+
 use components::ComponentList;
 use model::{Component, ComponentAttrs, ComponentId, Effect, Event, PowerOnResult};
 use settling::{Machine, Reply};
 use sm::Called;
-use std::io;
 use std::io::Stdout;
 use text::Line;
 
-fn put(out: Stdout, line: &Line) -> io::Result<()> {
-    out.write_all(text::bytes(line))
+// A write that fails is passed over, here and below: the blade goes on, whether somebody reads along or not.
+fn put(out: Stdout, line: &Line) {
+    let _ = out.write_all(text::bytes(line));
 }
 
 // A refused call, with document 01's number.
-fn put_refusal(out: Stdout, name: &str, called: Called) -> io::Result<()> {
-    println!(out; "{name}\t{}", called.number())
+fn put_refusal(out: Stdout, name: &str, called: Called) {
+    let _ = println!(out; "{name}\t{}", called.number());
 }
 
 // The output and the machine go side by side from here on. To keep them together would take a `&mut` of a struct, and each
 // function would name its two fields for what are two arguments.
-fn put_state(out: Stdout, m: Machine) -> io::Result<()> {
+fn put_state(out: Stdout, m: Machine) {
     let mut line = text::empty();
     printed::state_line(&mut line, sm::state(m));
-    put(out, &line)
+    put(out, &line);
 }
 
-fn put_isolated(out: Stdout, m: Machine) -> io::Result<()> {
+fn put_isolated(out: Stdout, m: Machine) {
     let words = sm::isolated_words(m);
-    println!(out; "isolated\t{}\t{}", sm::isolated_count(m), words[0])
+    let _ = println!(out; "isolated\t{}\t{}", sm::isolated_count(m), words[0]);
 }
 
 // What the board says to an effect: firmware that it is to verify passes, and all else is done.
@@ -42,7 +44,9 @@ fn answer_to(effect: Effect) -> Reply {
 
 // Answers one effect after the other until none waits. A count, since no contract says after how many replies none waits, so
 // that a `while let` could not be shown to end: a thousand are more than any event here hands out.
-fn finish(out: Stdout, m: Machine) -> io::Result<Machine> {
+fn finish(out: Stdout, m: Machine) -> Machine
+    ensures { Valid m → Valid result }
+{
     let mut v = m;
     let mut line = text::empty();
     for _ in 0..1000 {
@@ -50,29 +54,33 @@ fn finish(out: Stdout, m: Machine) -> io::Result<Machine> {
             break;
         };
         printed::effect_line(&mut line, effect);
-        put(out, &line)?;
+        put(out, &line);
         v = sm::reply(v, answer_to(effect)).machine;
     }
-    Ok(v)
+    v
 }
 
 // An event from its beginning to its end.
-fn drive(out: Stdout, m: Machine, event: Event) -> io::Result<Machine> {
+fn drive(out: Stdout, m: Machine, event: Event) -> Machine
+    ensures { Valid m → Valid result }
+{
     let begun = sm::begin(m, event).machine;
-    let v = finish(out, begun)?;
-    put_state(out, v)?;
-    Ok(v)
+    let v = finish(out, begun);
+    put_state(out, v);
+    v
 }
 
 // An event is begun and its first effect left waiting: another begin is refused, and so is a reply once all is done.
-fn refuse(out: Stdout, m: Machine) -> io::Result<Machine> {
+fn refuse(out: Stdout, m: Machine) -> Machine
+    ensures { Valid m → Valid result }
+{
     let begun = sm::begin(m, Event::AttestationChallenge).machine;
     let early = sm::begin(begun, Event::UpdateRequest);
-    put_refusal(out, "begin", early)?;
-    let v = finish(out, early.machine)?;
+    put_refusal(out, "begin", early);
+    let v = finish(out, early.machine);
     let late = sm::reply(v, Reply::Done);
-    put_refusal(out, "reply", late)?;
-    Ok(late.machine)
+    put_refusal(out, "reply", late);
+    late.machine
 }
 
 fn card(id: u8, attrs: ComponentAttrs) -> Component {
@@ -93,26 +101,25 @@ fn cards() -> ComponentList {
 }
 
 // Boot, a recovery, an isolation, an update.
-fn shift(out: Stdout, m: Machine) -> io::Result<()> {
+fn shift(out: Stdout, m: Machine) {
     let one = ComponentId::new(1);
     let three = ComponentId::new(3);
-    let m = drive(out, m, Event::PowerGood(PowerOnResult::Provisioned))?;
-    let m = drive(out, m, Event::Timeout(one))?;
-    let m = drive(out, m, Event::Restored(one))?;
-    let m = drive(out, m, Event::Booted(one))?;
-    let m = drive(out, m, Event::CorruptionDetected(three))?;
-    put_isolated(out, m)?;
-    let m = drive(out, m, Event::UpdateRequest)?;
-    let m = drive(out, m, Event::UpdateVerified)?;
-    let m = drive(out, m, Event::BootConfirmed(one))?;
-    let m = refuse(out, m)?;
-    put_state(out, m)
+    let m = drive(out, m, Event::PowerGood(PowerOnResult::Provisioned));
+    let m = drive(out, m, Event::Timeout(one));
+    let m = drive(out, m, Event::Restored(one));
+    let m = drive(out, m, Event::Booted(one));
+    let m = drive(out, m, Event::CorruptionDetected(three));
+    put_isolated(out, m);
+    let m = drive(out, m, Event::UpdateRequest);
+    let m = drive(out, m, Event::UpdateVerified);
+    let m = drive(out, m, Event::BootConfirmed(one));
+    let m = refuse(out, m);
+    put_state(out, m);
 }
 
 // The chain is accepted: else there is no machine, and nothing to run.
-fn main(rt: HostRuntime) -> io::Result<()> {
-    let Ok(machine) = sm::new(cards(), 3) else {
-        return Ok(());
-    };
-    shift(rt.stdout(), machine)
+fn main(rt: HostRuntime) {
+    if let Ok(machine) = sm::new(cards(), 3) {
+        shift(rt.stdout(), machine);
+    }
 }

@@ -20,15 +20,16 @@
 ghost use Rattle.std.specs.Prelude.{◌≡◌, false, ◌-◌, ◌≤◌, ◌<◌, drop, replicate};
 ghost use Rattle.store.specs.Flags.{flags};
 ghost use Rattle.machine.specs.View.{Fit};
+ghost use Rattle.settling.specs.View.{Valid};
+ghost use Rattle.steps.specs.Hand.{Callable};
 
+use bounded::Bounded;
 use components::{Answer, Chain, ComponentList};
 use machine::{ComponentStatus, Rot, Work};
 use model::{BootFailureKind, Component, ComponentId, Effect, Event, PowerOnResult, State};
 use pending::Pending;
 use settling::{Dispatch, Machine, Reply};
 use sm::Called;
-use std::alloc::AllocError;
-use std::fmt::Write;
 use std::io;
 use std::io::{Read, Stdout};
 use store::{Isolated, Sink, Status};
@@ -196,15 +197,26 @@ fn machine_of(part: Part, n: usize) -> Rot
 // ---- to numbers: the rows of the comparisons are numbers of several values in a line, so that no `Display` of one type gives
 // them. A `usize` goes in by `as`, as in Rust: std has no `From<usize>` for `u64`.
 
-// Numbers more, with a space before each that is not the first of its line.
-fn put(out: &mut String, numbers: &[u64]) -> Result<(), AllocError> {
-    for n in numbers {
-        if !out.is_empty() {
-            out.push(' ')?;
-        }
-        write!(out, "{n}")?;
+// A line of the output, in fixed memory. The longest answer, of 255 components and 511 effects, has fewer than 10,300 bytes, so
+// that there is room for every one.
+type Text = Bounded<u8, 16384>;
+
+// One number more, with a space before it where it is not the first of its line.
+fn put_number(out: &mut Text, n: u64) {
+    if out.count() != 0 {
+        out.push(b' ');
     }
-    Ok(())
+    let mut digits = text::empty();
+    text::push_decimal(&mut digits, n);
+    for &digit in text::bytes(&digits) {
+        out.push(digit);
+    }
+}
+
+fn put(out: &mut Text, numbers: &[u64]) {
+    for &n in numbers {
+        put_number(out, n);
+    }
 }
 
 fn id_number(id: ComponentId) -> u64 {
@@ -263,61 +275,58 @@ fn status_numbers(s: ComponentStatus) -> [u64; 4] {
     ]
 }
 
-// The line goes out, and the next begins.
-fn end_answer(to: Stdout, out: &mut String) -> io::Result<()> {
-    out.push('\n')?;
-    to.write_all(out.as_bytes())?;
-    out.clear();
-    Ok(())
+// The line goes out, and the next begins. A write that fails is passed over.
+fn end_answer(to: Stdout, out: &mut Text) {
+    out.push(b'\n');
+    let _ = to.write_all(out.as_slice());
+    out.len = 0;
 }
 
-fn put_answer(out: &mut String, a: Answer) -> Result<(), AllocError> {
-    put(out, &[a.number, a.place, a.other])
+fn put_answer(out: &mut Text, a: Answer) {
+    put(out, &[a.number, a.place, a.other]);
 }
 
 // What a step made: the machine, its statuses, the number of effects, and each of them.
-fn put_work(out: &mut String, w: &Work, n: usize) -> Result<(), AllocError> {
-    put(out, &machine_numbers(w.state, &w.rot))?;
+fn put_work(out: &mut Text, w: &Work, n: usize) {
+    put(out, &machine_numbers(w.state, &w.rot));
     for p in 0..n {
-        put(out, &status_numbers(machine::status_at(&w.rot, n, p)))?;
+        put(out, &status_numbers(machine::status_at(&w.rot, n, p)));
     }
     let effects = w.sink.effects.as_slice();
-    put(out, &[effects.len() as u64])?;
+    put(out, &[effects.len() as u64]);
     for &effect in effects {
-        put(out, &effect_numbers(effect))?;
+        put(out, &effect_numbers(effect));
     }
-    Ok(())
 }
 
 // What is read of a machine only at the end of a dispatch: the isolated positions and the statuses.
-fn put_rest(out: &mut String, m: &Machine) -> Result<(), AllocError> {
-    put(out, &sm::isolated_words(*m))?;
+fn put_rest(out: &mut Text, m: &Machine) {
+    put(out, &sm::isolated_words(*m));
     for p in 0..sm::count(*m) {
-        put(out, &status_numbers(sm::status(*m, p)))?;
+        put(out, &status_numbers(sm::status(*m, p)));
     }
-    Ok(())
 }
 
-fn put_call(out: &mut String, called: &Called) -> Result<(), AllocError> {
+fn put_call(out: &mut Text, called: &Called) {
     let m = &called.machine;
-    put(out, &[called.number()])?;
-    put(out, &waiting_numbers(called.effect))?;
-    put(out, &machine_numbers(sm::state(*m), &m.work.rot))?;
-    put(out, &[sm::isolated_count(*m) as u64])?;
+    put(out, &[called.number()]);
+    put(out, &waiting_numbers(called.effect));
+    put(out, &machine_numbers(sm::state(*m), &m.work.rot));
+    put(out, &[sm::isolated_count(*m) as u64]);
     if sm::waiting(*m).is_none() {
-        put_rest(out, m)?;
+        put_rest(out, m);
     }
-    Ok(())
 }
 
 // ---- answers
 
 // One case: the machine that it sets up takes one step.
-fn answer_case(out: &mut String, part: Part) -> Result<(), AllocError> {
+fn answer_case(out: &mut Text, part: Part) {
     let list = list_of(part.after(1));
     let verdict = list.verdict();
     let Ok(()) = verdict else {
-        return put_answer(out, Answer::from(verdict));
+        put_answer(out, Answer::from(verdict));
+        return;
     };
     let chain = Chain::of(&list);
     let n = chain.count;
@@ -329,11 +338,13 @@ fn answer_case(out: &mut String, part: Part) -> Result<(), AllocError> {
         sink: Sink::new(),
     };
     let w = rot::step(chain, part.byte(0), before, event_of(event));
-    put_work(out, &w, n)
+    put_work(out, &w, n);
 }
 
 // A call that was not refused. By hand: `sm` makes a `Called` of its own calls alone, and this is none of them.
-fn called(machine: Machine) -> Called {
+fn called(machine: Machine) -> Called
+    ensures { result.machine ≡ machine }
+{
     Called {
         machine,
         answer: Ok(()),
@@ -342,7 +353,9 @@ fn called(machine: Machine) -> Called {
 }
 
 // The machine at hand in another situation: a comparison starts here where no history leads.
-fn set_up(part: Part, m: Machine) -> Machine {
+fn set_up(part: Part, m: Machine) -> Machine
+    ensures { Valid result }
+{
     let n = m.chain.count;
     let rot = machine_of(part.after(2), n);
     Machine {
@@ -382,7 +395,9 @@ fn behind(first: Pending, second: Pending) -> Pending {
 
 // The waiting effect failed. EffectFailed gives way to the events of the line, so that the machine need not lock: a
 // comparison sees here what is queued, lost and handed out after a failure.
-fn fail_planted(part: Part, m: Machine) -> Machine {
+fn fail_planted(part: Part, m: Machine) -> Machine
+    ensures { Valid result }
+{
     let mut dispatch = m.dispatch;
     settling::replied(&mut dispatch, m.work.sink.effects.len, Reply::Failed);
     dispatch.pending = planted(part, m.dispatch.failed, dispatch.pending);
@@ -395,7 +410,9 @@ fn fail_planted(part: Part, m: Machine) -> Machine {
 }
 
 // A failed reply whose failure is planted. Where no effect waits it is refused as any reply is.
-fn reply_planted(part: Part, m: Machine) -> Called {
+fn reply_planted(part: Part, m: Machine) -> Called
+    ensures { Valid m → Valid result.machine }
+{
     if sm::waiting(m).is_none() {
         return sm::reply(m, Reply::Failed);
     }
@@ -403,7 +420,9 @@ fn reply_planted(part: Part, m: Machine) -> Called {
 }
 
 // A call on the machine m: what it is called with stands behind its number.
-fn call(part: Part, m: Machine) -> Called {
+fn call(part: Part, m: Machine) -> Called
+    ensures { Valid m → Valid result.machine }
+{
     let args = part.after(1);
     match part.number(0) {
         257 => sm::begin(m, event_of(args)),
@@ -416,85 +435,88 @@ fn call(part: Part, m: Machine) -> Called {
 }
 
 // The machine of a list. A refused list leaves none at hand.
-fn answer_new(out: &mut String, part: Part) -> Result<Option<Machine>, AllocError> {
+fn answer_new(out: &mut Text, part: Part) -> Option<Machine>
+    ensures { Callable result }
+{
     let made = sm::new(list_of(part.after(1)), part.byte(0));
-    put_answer(out, Answer::from(made.map(|_| ())))?;
-    Ok(made.ok())
+    put_answer(out, Answer::from(made.map(|_| ())));
+    made.ok()
 }
 
 // The line of these numbers is answered; the machine at hand, if there is one, is kept.
-fn answer(
-    out: &mut String,
-    part: Part,
-    kept: Option<Machine>,
-) -> Result<Option<Machine>, AllocError> {
+fn answer(out: &mut Text, part: Part, kept: Option<Machine>) -> Option<Machine>
+    ensures { Callable kept → Callable result }
+{
     let kind = part.number(0);
     if kind < 256 {
-        answer_case(out, part)?;
-        return Ok(kept);
+        answer_case(out, part);
+        return kept;
     }
     if kind == 256 {
         return answer_new(out, part.after(1));
     }
     let Some(m) = kept else {
-        put(out, &[99])?;
-        return Ok(None);
+        put(out, &[99]);
+        return None;
     };
     let called = call(part, m);
-    put_call(out, &called)?;
-    Ok(Some(called.machine))
+    put_call(out, &called);
+    Some(called.machine)
 }
 
 // ---- the input
 
-// What is read of the line so far: its numbers, and the one at hand.
-#[derive(Drop)]
+// What is read of the line so far: its numbers, and the one at hand. A case has at most 2305 numbers.
+#[derive(Clone, Copy)]
 struct Line {
-    numbers: Vec<u64>,
+    numbers: Bounded<u64, 2400>,
     number: u64,
 }
 
-// One byte more. Any that is no digit ends a number.
-fn read_byte(line: &mut Line, b: u8) -> Result<(), AllocError> {
+// One byte more. Any that is no digit ends a number. A number past the room of a line is dropped.
+fn read_byte(line: &mut Line, b: u8) {
     if let Some(digit) = char::from(b).to_digit(10) {
         line.number = cases::with_digit(line.number, u64::from(digit));
     } else {
-        line.numbers.push(line.number)?;
+        line.numbers.push(line.number);
         line.number = 0;
     }
-    Ok(())
 }
 
 // The bytes of a chunk, one after the other. Each line is answered as it ends.
 fn feed(
     to: Stdout,
-    out: &mut String,
+    out: &mut Text,
     line: &mut Line,
     chunk: &[u8],
     kept: Option<Machine>,
-) -> io::Result<Option<Machine>> {
-    let mut kept = kept;
+) -> Option<Machine>
+    ensures { Callable kept → Callable result }
+{
+    let mut hand = kept;
     for &b in chunk {
-        read_byte(line, b)?;
+        read_byte(line, b);
         if b == b'\n' {
             let part = Part {
-                numbers: &line.numbers,
+                numbers: line.numbers.as_slice(),
             };
-            kept = answer(out, part, kept)?;
-            end_answer(to, out)?;
-            line.numbers.clear();
+            hand = answer(out, part, hand);
+            end_answer(to, out);
+            line.numbers.len = 0;
         }
     }
-    Ok(kept)
+    hand
 }
+
+// At most 4 GiB are read, so that the program ends whatever it is fed.
+const MOST: u64 = 4_294_967_296;
 
 // The input comes in chunks, as in `verdicts`.
 fn main(rt: HostRuntime) -> io::Result<()> {
-    let alloc = rt.alloc();
-    let mut input = rt.stdin();
-    let mut out = String::new(alloc);
+    let mut input = rt.stdin().take(MOST);
+    let mut out = Text::new(0);
     let mut line = Line {
-        numbers: Vec::new(alloc),
+        numbers: Bounded::new(0),
         number: 0,
     };
     let mut kept = None;
@@ -506,7 +528,7 @@ fn main(rt: HostRuntime) -> io::Result<()> {
         if n == 0 {
             break;
         }
-        kept = feed(rt.stdout(), &mut out, &mut line, &chunk[..n], kept)?;
+        kept = feed(rt.stdout(), &mut out, &mut line, &chunk[..n], kept);
     }
     Ok(())
 }

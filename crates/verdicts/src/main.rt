@@ -66,10 +66,13 @@ fn feed(out: Stdout, line: &mut Line, chunk: &[u8]) -> io::Result<()> {
     Ok(())
 }
 
+// At most 4 GiB are read, so that the program ends whatever it is fed.
+const MOST: u64 = 4_294_967_296;
+
 // `steps` reads its input by the same six lines: what each feeds is its own, and a closure over the output and the line would
 // say more than they do.
 fn main(rt: HostRuntime) -> io::Result<()> {
-    let mut input = rt.stdin();
+    let mut input = rt.stdin().take(MOST);
     let mut line = new_line();
     let mut chunk = [0u8; 65536];
     // A loop that waits on input is a count here, since each loop has to end. `lines` of std would refuse bytes that are no
