@@ -20,7 +20,7 @@ import re
 HEAD = re.compile(r"# (\w+): (\S.*)")
 REFUSED_IN = re.compile(r"# refused in: (\S.*)")
 FUNCTION = re.compile(r'( *)(?:#\[no_mangle\] )?(?:pub )?(?:const )?(?:extern "C" )?fn (\w+)')
-IMPL = re.compile(r"impl(?:<[^{]*?>)? (?:From<(.*)> for )?(\w+)(?:<.*>)? \{")
+IMPL = re.compile(r"impl(?:<[^{]*?>)? (?:(\w+)(?:<(.*)>)? for )?(\w+)(?:<.*>)? \{")
 
 
 class Malformed(Exception):
@@ -53,7 +53,7 @@ class Round:
 
 
 def camel(kind):
-    """The name that the prover gives to a type in the name of a conversion: `Result<(), E>` is ResultUnitE."""
+    """The name that the prover gives to a type in the name of an impl of a trait: of `From<Result<(), E>>` it is ResultUnitE."""
     return "".join("Unit" if w == "()" else w[0].upper() + w[1:] for w in re.findall(r"\(\)|\w+", kind))
 
 
@@ -64,7 +64,7 @@ def bodies(file, text):
     found, owner, begun = [], "", None
     for i, line in enumerate(text.split("\n")):
         if m := IMPL.match(line):
-            owner = (camel(m[2]) + "From" + camel(m[1]) if m[1] else m[2]) + "::"
+            owner = (camel(m[3]) + m[1] + camel(m[2] or "") if m[1] else m[3]) + "::"
         elif line == "}" and not begun:
             owner = ""
         if m := FUNCTION.match(line):

@@ -68,6 +68,11 @@ module _ (ch : List Component) (max : ℕ) where
   pub turn-few : (m : Model) → Few m → Few (turn_of ch max m)
   turn-few m h = few-by m m.waiting m.left m.queue refl h
 
+  pub turns-few : (n : ℕ) (r : Run) → Few r.machine → Few (turns ch max n r).machine
+  unfolding turns
+  turns-few zero r h = h
+  turns-few (suc n) r h = turns-few n (turned ch max r) (turn-few r.machine h)
+
   -- ---- At rest
   -- At rest there is nothing to hand out and no event to take; the end sets the failure back, which it is already.
   stays_by : (m : Model) (w : Option Effect) (es : List Effect) (q : List Event) → RestsBy w es q m.failed → turn_by ch max m w es q ≡ m
@@ -163,6 +168,11 @@ pub settle-ends : (ch : List Component) (max : ℕ) (m : Model) → m.waiting �
     → Rests (settle ch max m).machine × (length (settle ch max m).settled ≤ 8)
 unfolding settle
 settle-ends ch max m w h = ends ch max (length m.left + 9) m w h (omega arith)
+
+-- with at most 8 still queued, whatever waits,
+pub settle-few : (ch : List Component) (max : ℕ) (m : Model) → length m.queue ≤ 8 → length (settle ch max m).machine.queue ≤ 8
+unfolding settle
+settle-few ch max m h = turns-few ch max (length m.left + 9) record { machine = m; settled = [] } h
 
 -- and more turns give the same.
 pub settle-turns : (ch : List Component) (max : ℕ) (m : Model) → m.waiting ≡ None → length m.queue ≤ 8 → (n : ℕ) → length m.left + 9 ≤ n

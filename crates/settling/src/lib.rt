@@ -9,11 +9,13 @@ ghost use Rattle.settling.specs.Settle.{waiting_is, failed_is, latch, fail, enqu
 ghost use Rattle.settling.specs.View.{view, chain_of, Becomes};
 ghost use Rattle.settling.specs.Parts.{idle, together, Moves, Taken, Parts, Makes, Rested};
 
+mod parts;
 mod whole;
 
 use components::Chain;
 use machine::Work;
 use model::{Effect, Event};
+pub use parts::{HasParts, MachineParts};
 use pending::Pending;
 pub use whole::Machine;
 

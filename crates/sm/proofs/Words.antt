@@ -9,9 +9,8 @@ use Rattle.store.specs.Flags.{flags, trues}
 use Rattle.store.specs.declared.Status.{Status}
 use Rattle.machine.specs.Status.{iso}
 use Rattle.machine.specs.View.{joined, statuses_of}
-use Rattle.components.specs.Tables.{size}
-use Rattle.settling.specs.declared.whole.Machine.{Machine}
-use Rattle.settling.specs.View.{view}
+use Rattle.settling.specs.declared.parts.MachineParts.{MachineParts}
+use Rattle.settling.specs.View.{listed, read, Fits, Given}
 use Rattle.sm.specs.Isolation.{isolation}
 
 iso-joined : (bs : List Bool) (ss : List Status) → length bs ≤ length ss → map iso (joined bs ss) ≡ bs
@@ -28,13 +27,18 @@ trues-none [] (suc n) = trues-none [] n
 trues-none (true ∷ bs) n = ap suc (trues-none bs n)
 trues-none (false ∷ bs) n = trues-none bs n
 
-module _ (m : Machine) (full : length m.work.rot.statuses ≡ 255) where
-  flagged : map iso (view m).core.statuses ≡ take (size m.chain) (flags m.work.rot.isolated)
-  unfolding view statuses_of
-  flagged = iso-joined (take (size m.chain) (flags m.work.rot.isolated)) (take (size m.chain) m.work.rot.statuses) (omega (arith, m.chain.few, length-take (size m.chain) (flags m.work.rot.isolated), length-take (size m.chain) m.work.rot.statuses))
+module _ (p : MachineParts) (full : length p.work.rot.statuses ≡ 255) (f : Fits p) where
+  flagged : map iso (read p).core.statuses ≡ take (length (listed p)) (flags p.work.rot.isolated)
+  unfolding statuses_of
+  flagged = iso-joined (take (length (listed p)) (flags p.work.rot.isolated)) (take (length (listed p)) p.work.rot.statuses) (omega (arith, f.0, length-take (length (listed p)) (flags p.work.rot.isolated), length-take (length (listed p)) p.work.rot.statuses))
 
-  pub words-say : flags m.work.rot.isolated ≡ isolation m
-  words-say = sym (take-append-drop (size m.chain) (flags m.work.rot.isolated)) ∙ (λ j. sym flagged j ++ m.fit.clean j)
+  pub words-say : flags p.work.rot.isolated ≡ isolation p
+  words-say = sym (take-append-drop (length (listed p)) (flags p.work.rot.isolated)) ∙ (λ j. sym flagged j ++ f.1.clean j)
 
-  pub count-says : trues (flags m.work.rot.isolated) ≡ trues (map iso (view m).core.statuses)
-  count-says = ap trues words-say ∙ trues-none (map iso (view m).core.statuses) (256 - size m.chain)
+  pub count-says : trues (flags p.work.rot.isolated) ≡ trues (map iso (read p).core.statuses)
+  count-says = ap trues words-say ∙ trues-none (map iso (read p).core.statuses) (256 - length (listed p))
+
+-- What follows from the premise, where it is known and where it is not.
+pub given : (known : Bool) {premise conclusion : Type 0} → Given known premise premise → (premise → conclusion) → Given known premise conclusion
+given true p f = f p
+given false p f = f

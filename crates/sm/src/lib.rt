@@ -7,7 +7,7 @@ ghost use Rattle.components.specs.Chain.{entries_of, verdict_of};
 ghost use Rattle.store.specs.Flags.{flags_of, flags, trues};
 ghost use Rattle.machine.specs.Status.{status_at, iso};
 ghost use Rattle.pending.specs.Queue.{events};
-ghost use Rattle.settling.specs.View.{view, chain_of};
+ghost use Rattle.settling.specs.View.{view, chain_of, listed, read, Fits, Given};
 ghost use Rattle.sm.specs.Calls.{done_by, begin_of, reply_of};
 ghost use Rattle.sm.specs.Isolation.{isolation};
 ghost use Rattle.sm.specs.Gives.{Fresh, NewGives, CallGives, reported, number_of};
@@ -15,8 +15,8 @@ ghost use Rattle.sm.specs.Gives.{Fresh, NewGives, CallGives, reported, number_of
 use components::{Chain, ChainError, ComponentList};
 use machine::{ComponentStatus, Rot, Work};
 use model::{Effect, Event, State};
-use settling::{Dispatch, Machine, Reply};
-use store::Sink;
+use settling::{Dispatch, HasParts, Machine, Reply};
+use store::{Sink, Status};
 
 // Why a call is refused: no effect waits for the reply, or the earlier event is not done.
 #[derive(Clone, Copy, Debug, PartialEq, Eq)]
@@ -148,48 +148,55 @@ pub fn reply(machine: Machine, reply: Reply) -> Called
     reported(m, Ok(()))
 }
 
-// ---- what users read of a machine
+// ---- what users read: of a machine, or of parts of which nothing is known
 
-#[tactic(auto, unfolding(settling::specs::View::view))]
-pub fn state(m: Machine) -> State
-    ensures { result ≡ (view m).core.state }
+pub fn state<M: HasParts>(m: M) -> State
+    ensures { result ≡ (read (M.parts m)).core.state }
 {
-    m.work.state
+    m.work().state
 }
 
 // The number of components.
-pub fn count(m: Machine) -> usize
-    ensures { result ≡ length (chain_of m) }
+pub fn count<M: HasParts>(m: M) -> usize
+    ensures { result ≡ length (listed (M.parts m)) }
 {
-    m.chain.count
+    m.count()
 }
 
 // The status at position p; past the chain that of a new component.
-#[tactic(auto, unfolding(settling::specs::View::view))]
-pub fn status(m: Machine, p: usize) -> ComponentStatus
-    ensures { result ≡ status_at (view m).core.statuses p }
+pub fn status<M: HasParts>(m: M, p: usize) -> ComponentStatus
+    ensures { result ≡ status_at (read (M.parts m)).core.statuses p }
 {
-    machine::status_at(&m.work.rot, m.chain.count, p)
+    machine::status_at(&m.work().rot, m.count(), p)
 }
 
 // The effect that waits for its reply.
-#[tactic(auto, unfolding(settling::specs::View::view))]
-pub fn waiting(m: Machine) -> Option<Effect>
-    ensures { result ≡ (view m).waiting }
+pub fn waiting<M: HasParts>(m: M) -> Option<Effect>
+    ensures { result ≡ (read (M.parts m)).waiting }
 {
-    m.dispatch.waiting
+    m.dispatch().waiting
+}
+
+// What a machine keeps between events. That an array which is lent has its length is known only once it is seen as a slice.
+fn rot_of<M: HasParts>(m: &M) -> &Rot
+    ensures { (result.now ≡ (M.parts m.now).work.rot) × (length result.now.statuses ≡ 255) }
+{
+    let rot = &m.work().rot;
+    let statuses: &[Status] = &rot.statuses;
+    prove!(statuses.len() == 255);
+    rot
 }
 
 // The isolated positions: position p is bit p mod 64, lowest first, of word p / 64.
-pub fn isolated_words(m: Machine) -> [u64; 4]
-    ensures { (result ≡ m.work.rot.isolated.words) × (flags_of 64 result ≡ isolation m) }
+pub fn isolated_words<M: HasParts>(m: M) -> [u64; 4]
+    ensures { (result ≡ (M.parts m).work.rot.isolated.words) × Given M.known (Fits (M.parts m)) (flags_of 64 result ≡ isolation (M.parts m)) }
 {
-    m.work.rot.isolated_words()
+    rot_of(&m).isolated_words()
 }
 
 // How many components are isolated.
-pub fn isolated_count(m: Machine) -> usize
-    ensures { (result ≡ trues (flags m.work.rot.isolated)) × (result ≡ trues (map iso (view m).core.statuses)) }
+pub fn isolated_count<M: HasParts>(m: M) -> usize
+    ensures { (result ≡ trues (flags (M.parts m).work.rot.isolated)) × Given M.known (Fits (M.parts m)) (result ≡ trues (map iso (read (M.parts m)).core.statuses)) }
 {
-    m.work.rot.isolated.count()
+    rot_of(&m).isolated.count()
 }
