@@ -1,7 +1,7 @@
 /* The two calls that a board makes: mallardtray_check and mallardtray_run.
  *
- * They are in libsheet.a, for x86-64; of the C library it needs memcpy, memmove
- * and memset alone. Neither call uses the heap or keeps
+ * They are in libsheet.a, for x86-64; of the C library it needs memcpy and
+ * memset alone. Neither call uses the heap or keeps
  * anything between calls, so calls may come from several threads at once. A call
  * reads the sheet, writes to out alone, and always returns. It needs less than
  * 40 KiB of stack: 17,512 bytes were measured for mallardtray_run
