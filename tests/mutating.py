@@ -37,7 +37,7 @@ STATEMENT = re.compile(r"(?!let |return )(?:[\w.\[\] +]+ [-+|*]?= .*|[\w:.]+\(.*
 CALL = re.compile(r"\b(\w+)\(")
 SIMPLE = re.compile(r"[\w.]+$")
 HIDDEN = re.compile(r"""//.*|b?"(?:\\.|[^"\\])*"|b?'(?:\\.|[^'\\])'""")
-FUNCTION = re.compile(r'\s*(?:pub )?(?:extern "C" )?fn \w')
+FUNCTION = re.compile(r'\s*(?:pub |final )?(?:extern "C" )?fn \w')
 CONSTANT = re.compile(r"\s*(?:pub )?const \w+: .* = ")
 LARGEST = 2**64 - 1
 
@@ -76,6 +76,9 @@ def code(lines):
             where = "constant"
             shown = CONSTANT.sub(lambda m: "\0" * len(m.group()), shown)
         if where == "signature":
+            # What a trait only declares ends here.
+            if line.rstrip().endswith(";"):
+                where = "outside"
             if line.lstrip().startswith(("requires", "ensures")):
                 continue
             if shown.rstrip().endswith("{"):

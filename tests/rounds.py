@@ -19,7 +19,8 @@ import re
 
 HEAD = re.compile(r"# (\w+): (\S.*)")
 REFUSED_IN = re.compile(r"# refused in: (\S.*)")
-FUNCTION = re.compile(r'( *)(?:#\[no_mangle\] )?(?:pub )?(?:const )?(?:extern "C" )?fn (\w+)')
+FUNCTION = re.compile(r'( *)(?:#\[no_mangle\] )?(?:pub |final )?(?:const )?(?:extern "C" )?fn (\w+)')
+TRAIT = re.compile(r"(?:pub )?trait (\w+)")
 IMPL = re.compile(r"impl(?:<[^{]*?>)? (?:(\w+)(?:<(.*)>)? for )?(\w+)(?:<.*>)? \{")
 
 
@@ -65,6 +66,8 @@ def bodies(file, text):
     for i, line in enumerate(text.split("\n")):
         if m := IMPL.match(line):
             owner = (camel(m[3]) + m[1] + camel(m[2] or "") if m[1] else m[3]) + "::"
+        elif m := TRAIT.match(line):
+            owner = m[1] + "::"
         elif line == "}" and not begun:
             owner = ""
         if m := FUNCTION.match(line):

@@ -16,6 +16,15 @@ impl Pair {
     }
 }
 
+pub trait Halves {
+    fn all(&self) -> u8
+        ensures { result ≤ 9 };
+
+    final fn half(&self) -> u8 {
+        self.all() / 2
+    }
+}
+
 const LAST: u8 = 7;
 """
 SPECS = "pub first : ℕ → ℕ\nfirst n = n + 1\n"
@@ -23,6 +32,7 @@ PROOFS = "pub first-is : (n : ℕ) → first n ≡ n + 1\nfirst-is n = refl\n"
 ONE = "# one_late: one too many\nfile: src/lib.rt\nold:     n\nnew:     n + 1\n"
 TWO = "# two_other: the other half\nfile: src/lib.rt\nold: one(self.b)\nnew: one(self.a)\n"
 THREE = "# three_kept: nothing is added\nfile: src/lib.rt\nold: x + 1\nnew: x + 0\n"
+HALF = "# half_all: nothing is halved\nfile: src/lib.rt\nold: self.all() / 2\nnew: self.all()\n"
 LAW = (
     "# first_stays: by the definition nothing is added\n# refused in: Laws.first-is\n"
     "file: specs/First.antt\nold: n + 1\nnew: n + 0\n"
@@ -51,6 +61,7 @@ FORMS = [
     ("a pair that changes nothing", ONE.replace("n + 1", "n"), "changes nothing"),
     ("two of one function", ONE + "# one_more: it\nfile: src/lib.rt\nold: n + 1\nnew: n + 2\n", "are both of `one`"),
     ("no function", "# last: it\n" + LAST, "edits no function"),
+    ("what a trait only declares", "# all_late: it\nfile: src/lib.rt\nold: result ≤ 9\nnew: result ≤ 8\n", "edits no function"),
     ("a place that is not there", "# last: it\n# refused in: four\n" + LAST, "has no `four`"),
     ("a place that another one has", ONE + "# last: it\n# refused in: one\n" + LAST, "are both of `one`"),
     ("two functions", ONE + "old: one(self.b)\nnew: one(self.a)\n", "edits one and Pair::two"),
@@ -91,6 +102,7 @@ LOGS = [
     ("it is well", ONE, ONE_FAILS + CALLER + END, None),
     ("both are refused on a fact", ONE + TWO, ONE_FAILS + TWO_FAILS + END, None),
     ("a closure is its function's", THREE, THREE_FAILS + END, None),
+    ("a function that a trait gives", HALF, "fn made::Halves::half: " + SEARCHED.replace("one", "Halves/half") + END, None),
     ("a law", LAW, LAW_FAILS + END, None),
     ("a law that holds on", ONE + LAW, ONE_FAILS + CALLER + END, "`first_stays`, in `Laws.first-is`: not refused"),
     ("a law that only follows", LAW, "./proofs/Laws.antt:2:1: " + NOT_CHECKED + END, "not refused"),

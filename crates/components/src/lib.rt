@@ -1,7 +1,7 @@
 // The list of components, the verdict on it, and a chain: a port of what the source's model.rs does to make one.
 #![tactic(auto)]
 
-ghost use Rattle.std.specs.Prelude.{◌≡◌, ◌≤◌, ◌<◌, length};
+ghost use Rattle.std.specs.Prelude.{◌≡◌, ◌≤◌, ◌<◌, List, length};
 ghost use Rattle.components.specs.Chain.{entries_of, no_entries, pushed, position, found, new_ids, links, verdict_of, answer_of, id_at};
 ghost use Rattle.components.specs.Links.{parent, kind_at, policy_at};
 ghost use Rattle.components.specs.Filled.{Filled, ById};
@@ -73,7 +73,7 @@ impl From<Result<(), ChainError>> for Answer {
     }
 }
 
-// The public methods take the list by value, as they were promised; `put` and `place` are lent it.
+// The public methods take the list by value, as they were promised; `put`, `place` and `kept` are lent it.
 impl ComponentList {
     // A list with no entry.
     pub fn new() -> Self
@@ -113,7 +113,7 @@ impl ComponentList {
     pub fn count(self) -> usize
         ensures { (result ≡ length (entries_of self)) × (result ≤ 255) }
     {
-        self.len.min(255)
+        self.kept().len()
     }
 
     // The first place at which `id` stands, or the number of entries kept where it stands nowhere: no `Option`, since callers
@@ -129,7 +129,14 @@ impl ComponentList {
     fn place(&self, id: ComponentId) -> Option<usize>
         ensures { result ≡ found (length (entries_of self.now)) (position (entries_of self.now) id) }
     {
-        self.entries[..self.count()].iter().position(|c| c.id == id)
+        self.kept().iter().position(|c| c.id == id)
+    }
+
+    // The entries kept, of a list that is lent.
+    fn kept(&self) -> &[Component]
+        ensures { (result.now ≡ entries_of self.now) × (length result.now ≤ 255) }
+    {
+        &self.entries[..self.len.min(255)]
     }
 
     // Questions 2 to 6.
@@ -137,6 +144,61 @@ impl ComponentList {
         ensures { result ≡ verdict_of self.len (entries_of self) }
     {
         Chain::of(&self).verdict()
+    }
+}
+
+// A list of components, of which nothing is known, or a chain: who has a list. What reads the entries alone takes either.
+pub trait HasList {
+    ghost use Rattle.model.specs.declared.Component.{Component};
+
+    // The entries kept.
+    ghost listed: { Self → List Component };
+
+    fn list(&self) -> &ComponentList
+        ensures { entries_of result.now ≡ listed self.now };
+
+    // How many components are kept, at most 255.
+    final fn size(&self) -> usize
+        ensures { (result ≡ length (listed self.now)) × (result ≤ 255) }
+    {
+        self.list().kept().len()
+    }
+
+    final fn id_at(&self, p: usize) -> ComponentId
+        requires { p < length (listed self.now) }
+        ensures { result ≡ id_at (listed self.now) p }
+    {
+        self.list().kept()[p].id
+    }
+
+    final fn kind_at(&self, p: usize) -> ComponentKind
+        requires { p < length (listed self.now) }
+        ensures { result ≡ kind_at (listed self.now) p }
+    {
+        self.list().kept()[p].attrs.kind
+    }
+
+    final fn policy_at(&self, p: usize) -> FailurePolicy
+        requires { p < length (listed self.now) }
+        ensures { result ≡ policy_at (listed self.now) p }
+    {
+        self.list().kept()[p].attrs.failure_policy
+    }
+}
+
+impl HasList for ComponentList {
+    ghost listed = { entries_of };
+
+    fn list(&self) -> &ComponentList {
+        self
+    }
+}
+
+impl HasList for Chain {
+    ghost listed = { λ chain. entries_of chain.list };
+
+    fn list(&self) -> &ComponentList {
+        &self.list
     }
 }
 
@@ -190,9 +252,8 @@ fn parents_of(list: &ComponentList, positions: &[u8; 256]) -> [u8; 255]
 }
 
 // A place is a number here, and no Option or type of its own: for none it is the number of components, as the definitions
-// count, the tables keep it and the cursor of a walk that has ended stands. So what asks for a place of the chain has a
-// premise, here and in the crates above. The methods are lent the chain: by value each
-// would copy 2,100 bytes.
+// count, the tables keep it and the cursor of a walk that has ended stands. So what is given a place has a premise, in
+// `HasList` and in the crates above. The methods are lent the chain: by value each would copy 2,100 bytes.
 impl Chain {
     ghost use Rattle.components.specs.Tables.{entries};
 
@@ -215,27 +276,6 @@ impl Chain {
         ensures { result ≡ position (entries self.now) id }
     {
         usize::from(self.positions[id.index()])
-    }
-
-    pub fn id_at(&self, p: usize) -> ComponentId
-        requires { p < length (entries self.now) }
-        ensures { result ≡ id_at (entries self.now) p }
-    {
-        self.list.entries[p].id
-    }
-
-    pub fn kind_at(&self, p: usize) -> ComponentKind
-        requires { p < length (entries self.now) }
-        ensures { result ≡ kind_at (entries self.now) p }
-    {
-        self.list.entries[p].attrs.kind
-    }
-
-    pub fn policy_at(&self, p: usize) -> FailurePolicy
-        requires { p < length (entries self.now) }
-        ensures { result ≡ policy_at (entries self.now) p }
-    {
-        self.list.entries[p].attrs.failure_policy
     }
 
     // Question 4 of the entry at place `at`: is its id new? The tables tell each place, so that no question searches the list.

@@ -15,7 +15,7 @@ ghost use Rattle.driver.specs.Seen.{run_on, Ran};
 ghost use Rattle.driver.specs.declared.RunError.TheVariants.{LimitReached};
 ghost use Rattle.driver.specs.Plans.{at_start, end_of, stops, answers, answers_by, queues, reads_by, turns, takes, passes, wrote, Stands, Planned, Advanced};
 
-use components::Chain;
+use components::{Chain, HasList};
 use lines::Row;
 use machine::{Rot, Work};
 use model::{Effect, Event};

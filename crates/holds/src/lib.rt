@@ -12,7 +12,7 @@ ghost use Rattle.holds.specs.Order.{listed};
 ghost use Rattle.holds.specs.Dependents.{dependents, Lists};
 
 use bounded::Bounded;
-use components::Chain;
+use components::{Chain, HasList};
 use machine::Work;
 use model::Effect;
 
@@ -20,11 +20,14 @@ use model::Effect;
 
 // The gate at p: the component is isolated, its flags go off and its retry count is kept; it is held in reset, and
 // reported. One that is isolated already was reported then, so a cascade that comes to it again says nothing.
-// (The status is read first: from that the proof knows how long the array is, on both ways.)
-pub fn gate_at(chain: &Chain, w: &mut Work, p: usize)
-    requires { p < size chain.now }
-    ensures { Does (size chain.now) w.old (gating (entries chain.now) p) w.new }
+// (The status is read first: from that the proof knows how long the array is, on both ways. That the place is within it is known
+// by the list's size, at most 255.)
+pub fn gate_at<L: HasList>(chain: &L, w: &mut Work, p: usize)
+    requires { p < length (L.listed chain.now) }
+    ensures { Does (length (L.listed chain.now)) w.old (gating (L.listed chain.now) p) w.new }
 {
+    let n = chain.size();
+    prove!(p < n);
     let held = w.rot.statuses[p].off();
     if w.rot.isolated.contains(p) {
         return;
@@ -98,11 +101,11 @@ pub fn gate_cascade(chain: &Chain, w: &mut Work, p: usize)
 
 // The cursor goes to the first component from p on that is not isolated. Its firmware is read and verified next; where
 // there is none the chain has ended.
-pub fn advance_to_next_ungated(chain: &Chain, w: &mut Work, p: usize)
-    requires { (p ≤ size chain.now) × (Sized w.old.rot) }
-    ensures { Does (size chain.now) w.old (advancing (entries chain.now) p) w.new }
+pub fn advance_to_next_ungated<L: HasList>(chain: &L, w: &mut Work, p: usize)
+    requires { (p ≤ length (L.listed chain.now)) × (Sized w.old.rot) }
+    ensures { Does (length (L.listed chain.now)) w.old (advancing (L.listed chain.now) p) w.new }
 {
-    let n = chain.count;
+    let n = chain.size();
     let next = w.rot.isolated.next_free(p, n);
     w.rot.cursor = next;
     if next < n {
@@ -115,9 +118,9 @@ pub fn advance_to_next_ungated(chain: &Chain, w: &mut Work, p: usize)
 // ---- quiescing
 
 // A component that runs is held in reset, and both its flags go off.
-fn quiet_one(chain: &Chain, w: &mut Work, p: usize)
-    requires { (p < size chain.now) × (Sized w.old.rot) }
-    ensures { Does (size chain.now) w.old (stopping (entries chain.now) p) w.new }
+fn quiet_one<L: HasList>(chain: &L, w: &mut Work, p: usize)
+    requires { (p < length (L.listed chain.now)) × (length (L.listed chain.now) ≤ 255) × (Sized w.old.rot) }
+    ensures { Does (length (L.listed chain.now)) w.old (stopping (L.listed chain.now) p) w.new }
 {
     w.rot.statuses[p] = w.rot.statuses[p].off();
     w.sink.emit(Effect::AssertReset(chain.id_at(p)));
@@ -125,11 +128,11 @@ fn quiet_one(chain: &Chain, w: &mut Work, p: usize)
 
 // Nothing runs any more: in chain order every released component is held in reset. The others are in reset already, and are
 // passed over here.
-pub fn quiesce_all(chain: &Chain, w: &mut Work)
+pub fn quiesce_all<L: HasList>(chain: &L, w: &mut Work)
     requires { Sized w.old.rot }
-    ensures { Does (size chain.now) w.old (quieting_all (entries chain.now)) w.new }
+    ensures { Does (length (L.listed chain.now)) w.old (quieting_all (L.listed chain.now)) w.new }
 {
-    for p in 0..chain.count {
+    for p in 0..chain.size() {
         if w.rot.statuses[p].released {
             quiet_one(chain, w, p);
         }
@@ -137,9 +140,10 @@ pub fn quiesce_all(chain: &Chain, w: &mut Work)
 }
 
 // Entering Ready: the retry count of every component starts again. What is stored past the chain nobody reads, and it stays.
-pub fn clear_all_retries(chain: &Chain, w: &mut Work)
+pub fn clear_all_retries<L: HasList>(chain: &L, w: &mut Work)
     requires { Sized w.old.rot }
-    ensures { Does (size chain.now) w.old clearing w.new }
+    ensures { Does (length (L.listed chain.now)) w.old clearing w.new }
 {
-    store::clear_retries(&mut w.rot.statuses[..chain.count]);
+    let n = chain.size();
+    store::clear_retries(&mut w.rot.statuses[..n]);
 }

@@ -16,7 +16,7 @@ ghost use Rattle.rules.specs.Performed.{said, spoken, keeping, gated, nexts, per
 ghost use Rattle.rot.specs.Whom.{whom};
 ghost use Rattle.rot.specs.Stepped.{bare, Stepped};
 
-use components::Chain;
+use components::{Chain, HasList};
 use machine::Work;
 use model::{ComponentId, Effect, Event, State};
 use rules::{Decision, Facts, Hold, Kept, Next, Says};

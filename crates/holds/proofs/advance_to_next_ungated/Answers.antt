@@ -1,8 +1,7 @@
 -- `advance_to_next_ungated` meets its contract: the search over the set is the search over the statuses.
-use Rattle.std.proofs.Common.{◌≡◌, ℕ, ◌≤◌, refl, sym, ap, ◌∙◌, arith}
+use Rattle.std.proofs.Common.{◌≡◌, ℕ, ◌≤◌, length, refl, sym, ap, ◌∙◌, arith}
 use Rattle.model.specs.declared.Effect.TheVariants.{ReadFirmware, VerifyFirmware}
 use Rattle.components.specs.Chain.{id_at}
-use Rattle.components.specs.Tables.{entries, size}
 use Rattle.store.specs.Flags.{flags, next_free}
 use Rattle.store.proofs.Set.{length-flags, next-from, next-range}
 use Rattle.holds.specs.Advance.{seek}
@@ -33,30 +32,30 @@ module _ (n : ℕ) (w : Work) (p q : ℕ) (sized : Sized w.rot) (low : n ≤ 255
       (λ places. record { statuses = places.statuses; words = places.words })
 
 pub returns-then-next-n : goal.returns-then-next-n
-returns-then-next-n c =
+returns-then-next-n g c =
     let a = c.args in
-    let m = a.chain.now in
+    let ch = g.L.HasList.listed a.chain.now in
     let w = a.w.now in
-    let n = size m in
+    let n = length ch in
     let q = c.next_free-next.result in
-    let e = rw c.args.chain.now.counted at c.next_free-next.ensures in
-    let low : n ≤ 255 = omega arith in
+    let e = rw c.size-n.ensures.0 at c.next_free-next.ensures in
+    let low : n ≤ 255 = rw c.size-n.ensures.0 at c.size-n.ensures.1 in
     let sized = c.requires.1 in
     let f = found n w a.p q sized low c.requires.0 e in
     let aim = seek (statuses_of n w.rot) a.p in
-    ran-as (ap (out (cursor_at aim (core_of n w))) (verify-found (entries m) aim c.id_at-id.result (c.id_at-id.ensures ∙ ap (id_at (entries m)) f) (omega arith)))
+    ran-as (ap (out (cursor_at aim (core_of n w))) (verify-found ch aim c.id_at-id.result (c.id_at-id.ensures ∙ ap (id_at ch) f) (omega arith)))
     (ran-emit (VerifyFirmware c.id_at-id.result) (ran-emit (ReadFirmware c.id_at-id.result) (went n w a.p q sized low c.requires.0 e) c.emit.ensures) c.emit-then-next-n.ensures)
 
 pub returns-else-next-n : goal.returns-else-next-n
-returns-else-next-n c =
+returns-else-next-n g c =
     let a = c.args in
-    let m = a.chain.now in
+    let ch = g.L.HasList.listed a.chain.now in
     let w = a.w.now in
-    let n = size m in
+    let n = length ch in
     let q = c.next_free-next.result in
-    let e = rw c.args.chain.now.counted at c.next_free-next.ensures in
-    let low : n ≤ 255 = omega arith in
+    let e = rw c.size-n.ensures.0 at c.next_free-next.ensures in
+    let low : n ≤ 255 = rw c.size-n.ensures.0 at c.size-n.ensures.1 in
     let sized = c.requires.1 in
     let f = found n w a.p q sized low c.requires.0 e in
     let aim = seek (statuses_of n w.rot) a.p in
-    ran-as (ap (out (cursor_at aim (core_of n w))) (verify-none (entries m) aim (omega arith))) (went n w a.p q sized low c.requires.0 e)
+    ran-as (ap (out (cursor_at aim (core_of n w))) (verify-none ch aim (omega arith))) (went n w a.p q sized low c.requires.0 e)
