@@ -1,7 +1,7 @@
 // The list of components, the verdict on it, and a chain: a port of what the source's model.rs does to make one.
 #![tactic(auto)]
 
-ghost use Rattle.std.specs.Prelude.{◌≡◌, ◌≤◌, ◌<◌, List, length};
+ghost use Rattle.std.specs.Prelude.{◌≡◌, ◌≤◌, ◌<◌, length};
 ghost use Rattle.components.specs.Chain.{entries_of, no_entries, pushed, position, found, new_ids, links, verdict_of, answer_of, id_at};
 ghost use Rattle.components.specs.Links.{parent, kind_at, policy_at};
 ghost use Rattle.components.specs.Filled.{Filled, ById};
@@ -149,45 +149,44 @@ impl ComponentList {
 
 // A list of components, of which nothing is known, or a chain: who has a list. What reads the entries alone takes either.
 pub trait HasList {
-    ghost use Rattle.model.specs.declared.Component.{Component};
+    ghost use Rattle.components.specs.declared.ComponentList.{ComponentList};
 
-    // The entries kept.
-    ghost listed: { Self → List Component };
+    ghost list_of: { Self → ComponentList };
 
     fn list(&self) -> &ComponentList
-        ensures { entries_of result.now ≡ listed self.now };
+        ensures { result.now ≡ list_of self.now };
 
     // How many components are kept, at most 255.
     final fn size(&self) -> usize
-        ensures { (result ≡ length (listed self.now)) × (result ≤ 255) }
+        ensures { (result ≡ length (entries_of (list_of self.now))) × (result ≤ 255) }
     {
         self.list().kept().len()
     }
 
     final fn id_at(&self, p: usize) -> ComponentId
-        requires { p < length (listed self.now) }
-        ensures { result ≡ id_at (listed self.now) p }
+        requires { p < length (entries_of (list_of self.now)) }
+        ensures { result ≡ id_at (entries_of (list_of self.now)) p }
     {
         self.list().kept()[p].id
     }
 
     final fn kind_at(&self, p: usize) -> ComponentKind
-        requires { p < length (listed self.now) }
-        ensures { result ≡ kind_at (listed self.now) p }
+        requires { p < length (entries_of (list_of self.now)) }
+        ensures { result ≡ kind_at (entries_of (list_of self.now)) p }
     {
         self.list().kept()[p].attrs.kind
     }
 
     final fn policy_at(&self, p: usize) -> FailurePolicy
-        requires { p < length (listed self.now) }
-        ensures { result ≡ policy_at (listed self.now) p }
+        requires { p < length (entries_of (list_of self.now)) }
+        ensures { result ≡ policy_at (entries_of (list_of self.now)) p }
     {
         self.list().kept()[p].attrs.failure_policy
     }
 }
 
 impl HasList for ComponentList {
-    ghost listed = { entries_of };
+    ghost list_of = { λ list. list };
 
     fn list(&self) -> &ComponentList {
         self
@@ -195,7 +194,7 @@ impl HasList for ComponentList {
 }
 
 impl HasList for Chain {
-    ghost listed = { λ chain. entries_of chain.list };
+    ghost list_of = { λ chain. chain.list };
 
     fn list(&self) -> &ComponentList {
         &self.list

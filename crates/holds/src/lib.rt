@@ -3,6 +3,7 @@
 #![tactic(auto)]
 
 ghost use Rattle.std.specs.Prelude.{[], ◌++◌, ◌≡◌, ◌+◌, ◌≤◌, ◌<◌, length};
+ghost use Rattle.components.specs.Chain.{entries_of};
 ghost use Rattle.components.specs.Tables.{entries, size, Accepted};
 ghost use Rattle.machine.specs.View.{Sized};
 ghost use Rattle.machine.specs.Acts.{Does};
@@ -23,8 +24,8 @@ use model::Effect;
 // (The status is read first: from that the proof knows how long the array is, on both ways. That the place is within it is known
 // by the list's size, at most 255.)
 pub fn gate_at<L: HasList>(chain: &L, w: &mut Work, p: usize)
-    requires { p < length (L.listed chain.now) }
-    ensures { Does (length (L.listed chain.now)) w.old (gating (L.listed chain.now) p) w.new }
+    requires { p < length (entries_of (L.list_of chain.now)) }
+    ensures { Does (length (entries_of (L.list_of chain.now))) w.old (gating (entries_of (L.list_of chain.now)) p) w.new }
 {
     let n = chain.size();
     prove!(p < n);
@@ -102,8 +103,8 @@ pub fn gate_cascade(chain: &Chain, w: &mut Work, p: usize)
 // The cursor goes to the first component from p on that is not isolated. Its firmware is read and verified next; where
 // there is none the chain has ended.
 pub fn advance_to_next_ungated<L: HasList>(chain: &L, w: &mut Work, p: usize)
-    requires { (p ≤ length (L.listed chain.now)) × (Sized w.old.rot) }
-    ensures { Does (length (L.listed chain.now)) w.old (advancing (L.listed chain.now) p) w.new }
+    requires { (p ≤ length (entries_of (L.list_of chain.now))) × (Sized w.old.rot) }
+    ensures { Does (length (entries_of (L.list_of chain.now))) w.old (advancing (entries_of (L.list_of chain.now)) p) w.new }
 {
     let n = chain.size();
     let next = w.rot.isolated.next_free(p, n);
@@ -119,8 +120,8 @@ pub fn advance_to_next_ungated<L: HasList>(chain: &L, w: &mut Work, p: usize)
 
 // A component that runs is held in reset, and both its flags go off.
 fn quiet_one<L: HasList>(chain: &L, w: &mut Work, p: usize)
-    requires { (p < length (L.listed chain.now)) × (length (L.listed chain.now) ≤ 255) × (Sized w.old.rot) }
-    ensures { Does (length (L.listed chain.now)) w.old (stopping (L.listed chain.now) p) w.new }
+    requires { (p < length (entries_of (L.list_of chain.now))) × (length (entries_of (L.list_of chain.now)) ≤ 255) × (Sized w.old.rot) }
+    ensures { Does (length (entries_of (L.list_of chain.now))) w.old (stopping (entries_of (L.list_of chain.now)) p) w.new }
 {
     w.rot.statuses[p] = w.rot.statuses[p].off();
     w.sink.emit(Effect::AssertReset(chain.id_at(p)));
@@ -130,7 +131,7 @@ fn quiet_one<L: HasList>(chain: &L, w: &mut Work, p: usize)
 // passed over here.
 pub fn quiesce_all<L: HasList>(chain: &L, w: &mut Work)
     requires { Sized w.old.rot }
-    ensures { Does (length (L.listed chain.now)) w.old (quieting_all (L.listed chain.now)) w.new }
+    ensures { Does (length (entries_of (L.list_of chain.now))) w.old (quieting_all (entries_of (L.list_of chain.now))) w.new }
 {
     for p in 0..chain.size() {
         if w.rot.statuses[p].released {
@@ -142,7 +143,7 @@ pub fn quiesce_all<L: HasList>(chain: &L, w: &mut Work)
 // Entering Ready: the retry count of every component starts again. What is stored past the chain nobody reads, and it stays.
 pub fn clear_all_retries<L: HasList>(chain: &L, w: &mut Work)
     requires { Sized w.old.rot }
-    ensures { Does (length (L.listed chain.now)) w.old clearing w.new }
+    ensures { Does (length (entries_of (L.list_of chain.now))) w.old clearing w.new }
 {
     let n = chain.size();
     store::clear_retries(&mut w.rot.statuses[..n]);

@@ -1,7 +1,7 @@
 -- `advance_to_next_ungated` meets its contract: the search over the set is the search over the statuses.
 use Rattle.std.proofs.Common.{◌≡◌, ℕ, ◌≤◌, length, refl, sym, ap, ◌∙◌, arith}
 use Rattle.model.specs.declared.Effect.TheVariants.{ReadFirmware, VerifyFirmware}
-use Rattle.components.specs.Chain.{id_at}
+use Rattle.components.specs.Chain.{entries_of, id_at}
 use Rattle.store.specs.Flags.{flags, next_free}
 use Rattle.store.proofs.Set.{length-flags, next-from, next-range}
 use Rattle.holds.specs.Advance.{seek}
@@ -34,7 +34,7 @@ module _ (n : ℕ) (w : Work) (p q : ℕ) (sized : Sized w.rot) (low : n ≤ 255
 pub returns-then-next-n : goal.returns-then-next-n
 returns-then-next-n g c =
     let a = c.args in
-    let ch = g.L.HasList.listed a.chain.now in
+    let ch = entries_of (g.L.HasList.list_of a.chain.now) in
     let w = a.w.now in
     let n = length ch in
     let q = c.next_free-next.result in
@@ -49,7 +49,7 @@ returns-then-next-n g c =
 pub returns-else-next-n : goal.returns-else-next-n
 returns-else-next-n g c =
     let a = c.args in
-    let ch = g.L.HasList.listed a.chain.now in
+    let ch = entries_of (g.L.HasList.list_of a.chain.now) in
     let w = a.w.now in
     let n = length ch in
     let q = c.next_free-next.result in

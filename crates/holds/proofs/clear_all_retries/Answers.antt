@@ -4,6 +4,7 @@ use Rattle.std.proofs.Math.Seq.{take_at}
 use Rattle.std.proofs.lemmas.List.{length-map}
 use Rattle.store.specs.Retry.{no_retry}
 use Rattle.store.specs.Flags.{flags}
+use Rattle.components.specs.Chain.{entries_of}
 use Rattle.machine.specs.declared.ComponentStatus.{ComponentStatus}
 use Rattle.machine.specs.View.{statuses_of, statuses_are, core_of}
 use Rattle.holds.proofs.Laws.{clear-view}
@@ -14,7 +15,7 @@ pub returns : goal.returns
 unfolding statuses_of
 returns g c =
     let w = c.args.w.now in
-    let n = length (g.L.HasList.listed c.args.chain.now) in
+    let n = length (entries_of (g.L.HasList.list_of c.args.chain.now)) in
     let k = c.size-n.ensures.0 in
     let done = c.clear_retries.new.statuses in
     let rest = drop c.size-n.result w.rot.statuses in

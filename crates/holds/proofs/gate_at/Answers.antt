@@ -5,6 +5,7 @@ use Rattle.std.proofs.Math.Seq.{drop-set-lt}
 use Rattle.store.specs.Flags.{flags}
 use Rattle.store.proofs.Set.{length-flags}
 use Rattle.store.specs.Stored.{off}
+use Rattle.components.specs.Chain.{entries_of}
 use Rattle.machine.specs.declared.ComponentStatus.{ComponentStatus}
 use Rattle.machine.specs.declared.Rot.{Rot}
 use Rattle.machine.specs.Status.{status_at, iso, is_isolated}
@@ -25,7 +26,7 @@ seen n r p low sized h = ap iso (seen-at n r p (length-statuses n r low sized) h
 
 pub returns-then-contains : goal.returns-then-contains
 returns-then-contains g c =
-    let ch = g.L.HasList.listed c.args.chain.now in
+    let ch = entries_of (g.L.HasList.list_of c.args.chain.now) in
     let w = c.args.w.now in
     let low = rw c.size-n.ensures.0 at c.size-n.ensures.1 in
     let full : length w.rot.statuses ≡ 255 = search rules in
@@ -35,7 +36,7 @@ returns-then-contains g c =
 pub returns : goal.returns
 unfolding statuses_of
 returns g c =
-    let ch = g.L.HasList.listed c.args.chain.now in
+    let ch = entries_of (g.L.HasList.list_of c.args.chain.now) in
     let n = length ch in
     let w = c.args.w.now in
     let p = c.args.p in

@@ -1,5 +1,6 @@
 -- `quiesce_all` meets its contract: the turns one after another.
 use Rattle.std.proofs.Common.{length, ◌+◌, ◌∙◌, ap, arith}
+use Rattle.components.specs.Chain.{entries_of}
 use Rattle.machine.specs.View.{core_of}
 use Rattle.holds.specs.Acts.{quieting, quieting_all}
 use Rattle.machine.specs.Acts.{Does}
@@ -11,14 +12,14 @@ use Rattle.holds.proofs.quiesce_all.Goals.{then-w-p, else-w-p}
 use Rattle.holds.proofs.quiesce_all.Goals as goal
 
 pub loop-p-init : goal.loop-p-init
-loop-p-init g c = leads-first (quiet_left (g.L.HasList.listed c.args.chain.now) 0)
+loop-p-init g c = leads-first (quiet_left (entries_of (g.L.HasList.list_of c.args.chain.now)) 0)
 
 pub quiet_one-requires : goal.quiet_one-requires
 quiet_one-requires g c = (omega arith, rw c.size-p-end.ensures.0 at c.size-p-end.ensures.1, c.loop-p.invariant.sized c.requires)
 
 pub loop-p-preserved : goal.loop-p-preserved
 loop-p-preserved g c =
-    let ch = g.L.HasList.listed c.args.chain.now in
+    let ch = entries_of (g.L.HasList.list_of c.args.chain.now) in
     let i = c.loop-p.p in
     let w = c.loop-p.w in
     let n = length ch in
@@ -33,7 +34,7 @@ loop-p-preserved g c =
 
 pub returns : goal.returns
 returns g c =
-    let ch = g.L.HasList.listed c.args.chain.now in
+    let ch = entries_of (g.L.HasList.list_of c.args.chain.now) in
     let w = c.loop-p.w in
     let as_many = length-statuses (length ch) w.rot (rw c.size-p-end.ensures.0 at c.size-p-end.ensures.1) (c.loop-p.invariant.sized c.requires) in
     leads-last {o = quieting_all ch (core_of (length ch) c.args.w.now)} c.loop-p.invariant (quiet-last ch c.loop-p.p (core_of (length ch) w) (omega arith) (omega arith))

@@ -1,6 +1,7 @@
 -- `quiet_one` meets its contract: the flags and one effect.
 use Rattle.std.proofs.Common.{length, refl}
 use Rattle.model.specs.declared.Effect.TheVariants.{AssertReset}
+use Rattle.components.specs.Chain.{entries_of}
 use Rattle.machine.specs.Status.{quiet}
 use Rattle.machine.specs.View.{core_of}
 use Rattle.machine.proofs.Runs.{ran-as, ran-emit}
@@ -12,7 +13,7 @@ use Rattle.holds.proofs.quiet_one.Goals as goal
 pub returns : goal.returns
 returns g c =
     let a = c.args in
-    let ch = g.L.HasList.listed a.chain.now in
+    let ch = entries_of (g.L.HasList.list_of a.chain.now) in
     let w = a.w.now in
     let n = length ch in
     ran-as (stop-says ch a.p (core_of n w) c.id_at.result c.id_at.ensures)
